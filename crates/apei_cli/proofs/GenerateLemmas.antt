@@ -9,9 +9,11 @@ use Rattle.erst_client.specs.declared.errors.ClientError.{ClientError}
 use Rattle.erst_machine.specs.Shown.{changes_of}
 use Rattle.apei_script.specs.Players.{PlayerState}
 use Rattle.apei_script.specs.Words.{said_at, reply_at, words_of_write, words_of_read, words_of_clear, words_of_count, words_of_next}
-use Rattle.apei_script.specs.Plays.{IsOwnLine, step_of}
+use Rattle.apei_script.specs.Plays.{IsOwnLine, step_of, one_reply}
 use Rattle.apei_script.specs.Sessions.{CommandPlayed}
 use Rattle.apei_script.specs.History.{Played, AreOwnLines, blocks_of, reply_of}
+use Rattle.script_lines.specs.Streams.{stream_of}
+use Rattle.apei_cli.specs.Orders.{batch_of}
 use Rattle.apei_cli.specs.declared.generate.command.Command.{Command}
 use Rattle.apei_cli.specs.declared.generate.command.Command.TheVariants.{Write, Clear, Read, Next}
 use Rattle.apei_cli.specs.declared.generate.tally.Tally.{Tally}
@@ -19,7 +21,7 @@ use Rattle.apei_cli.specs.Commands.{number_behind, numbers_behind, drawn_of, com
 use Rattle.apei_cli.specs.Tallies.{counted_kind, counted_refusal, counted_with}
 use Rattle.apei_cli.specs.Generated.{is_write, is_clear, is_read, is_next, is_refusal, tally_of, IsRefusedIf, PlaysCommands}
 use Rattle.apei_cli.specs.Summaries.{TellsLive, Counted, Refused, WritesText, summary_of, IsGenerated}
-use Rattle.apei_cli.proofs.RunLemmas.{AreCounted-push, Follows-push, blocks_of-push, counts_after, played_as}
+use Rattle.apei_cli.proofs.RunLemmas.{AreCounted-push, Follows-push, blocks_of-push, counts_after}
 
 -- the number that so many numbers behind one end in
 abbrev pub number_after : ℕ → ℕ → ℕ
@@ -37,16 +39,12 @@ numbers-push x (suc n) = ap (λ (xs : List ℕ). number_behind x ∷ xs) (number
 lines-push : (seed n : ℕ) → generated_lines seed (suc n) ≡ generated_lines seed n ++ line_at (number_after seed (suc n)) ∷ []
 lines-push seed n = ap (map line_at) (numbers-push seed n) ∙ map-append line_at (numbers_behind seed n) (number_after seed (suc n) ∷ [])
 
--- one line more, which is one of its own and tells no listener of a block
-abbrev asked_as : Line → List ℕ → PlayerState → Played
-asked_as line words left = played_as line (said_at (step_of left) (words ∷ [])) [] [] left
-
 AreOwnLines-push : (some : List Played) (one : Played) → AreOwnLines some → IsOwnLine one.line → AreOwnLines (some ++ one ∷ [])
 AreOwnLines-push [] one before is = (is, tt)
 AreOwnLines-push (first ∷ rest) one before is = (before.0, AreOwnLines-push rest one before.1 is)
 
-no_blocks-push : (some : List Played) (line : Line) (words : List ℕ) (new : PlayerState) → blocks_of some ≡ [] → blocks_of (some ++ asked_as line words new ∷ []) ≡ []
-no_blocks-push some line words new none = blocks_of-push some (asked_as line words new) ∙ ap (λ (blocks : List (List ℕ)). blocks ++ []) none
+no_blocks-push : (some : List Played) (line : Line) (words : List ℕ) (new : PlayerState) → blocks_of some ≡ [] → blocks_of (some ++ one_reply line words new ∷ []) ≡ []
+no_blocks-push some line words new none = blocks_of-push some (one_reply line words new) ∙ ap (λ (blocks : List (List ℕ)). blocks ++ []) none
 
 own_line : (command : Command) → IsOwnLine (line_for command)
 own_line (Write id size) = tt
@@ -55,7 +53,7 @@ own_line (Read id) = tt
 own_line Next = tt
 
 -- the reply to the line
-reply-as : (line : Line) (words : List ℕ) (new : PlayerState) → reply_of (asked_as line words new) ≡ reply_at (step_of new) words
+reply-as : (line : Line) (words : List ℕ) (new : PlayerState) → reply_of (one_reply line words new) ≡ reply_at (step_of new) words
 reply-as line words new = append-nil (reply_at (step_of new) words)
 
 -- a reply is a refusal where the command was refused
@@ -164,7 +162,7 @@ next_so_far : (tells : Type 0) (old : PlayerState) (seed n : ℕ) (mid new : Pla
     → tally_now ≡ counted_with command refused tally → SoFar tells old seed (suc n) new (number_behind number) tally_now
 next_so_far tells old seed n mid new number tally tally_now command refused sofar made asked counted counts =
     let before = sofar.so_far in
-    let one = asked_as (line_for command) asked.words new in
+    let one = one_reply (line_for command) asked.words new in
     let number_now : number_behind number ≡ number_after seed (suc n) = ap number_behind sofar.number_is ∙ sym (number_after-suc seed n) in
     let line_is : line_for command ≡ line_at (number_after seed (suc n)) = ap line_for made ∙ ap line_at number_now in
     record {
@@ -205,10 +203,10 @@ pub generated : {E : Type 0} (tells told_sink : Type 0) (old : PlayerState) (see
     (written written_now : List ℕ) (result : Result (Unit {0}) E) → PlaysCommands tells old seed commands mid tally → CommandPlayed tells mid count new (words_of_count answer)
     → (tells → changes_of new.machine ≡ step_of new) → live ≡ result_unwrap_or answer 0 → step ≡ step_of new
     → (told_sink → WritesText (summary_of commands tally live step) written written_now result)
-    → IsGenerated tells told_sink old seed commands new written written_now result
+    → IsGenerated tells (stream_of told_sink written written_now) old (batch_of seed commands) new result
 generated tells told_sink old seed commands mid new tally answer live step written written_now result are asked counted is at text =
     let words = words_of_count answer in
-    let last = asked_as count words new in
+    let last = one_reply count words new in
     record {
       played = are.played;
       last = last;

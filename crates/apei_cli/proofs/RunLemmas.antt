@@ -8,11 +8,12 @@ use Rattle.erst_bridge.specs.Turns.{Step}
 use Rattle.script_text.specs.ScriptGrammar.{Line as ScriptLine, IsLine}
 use Rattle.script_text.specs.ScriptText.{Means}
 use Rattle.apei_notify.specs.Telling.{Hearing, counts_of, wants_of}
+use Rattle.script_lines.specs.Streams.{Stream, stream_of}
 use Rattle.apei_script.specs.declared.player.PlayStop.{PlayStop}
 use Rattle.apei_script.specs.declared.player.PlayStop.TheVariants.{FlashFault as RestartFailed, Memory as NoMemory}
 use Rattle.apei_script.specs.Players.{PlayerState}
 use Rattle.apei_script.specs.Words.{Reply, text_of_replies}
-use Rattle.apei_script.specs.Plays.{LinePlayed, HasHappened, FailsRestart, PartlyWritten, PlaysLine, PlaysUnwritten, Stops, Told, step_of}
+use Rattle.apei_script.specs.Plays.{Stage, LinePlayed, HasHappened, FailsRestart, PartlyWritten, PlaysLine, PlaysUnwritten, Stops, Told, step_of, stage_in, played_as}
 use Rattle.erst_machine.specs.Shown.{changes_of}
 use Rattle.apei_script.specs.History.{Played, Follows, AreCounted, blocks_of, reply_of, text_of, heard_after}
 use Rattle.script_lines.specs.Ends.{IsBadFrom, EndsReading}
@@ -21,8 +22,8 @@ use Rattle.script_lines.specs.Lines.{Line, Reading, IsNextLine}
 use Rattle.script_lines.specs.Played.{IsLineOf, ArePlayed, StopsAt, PlaysByFault}
 use Rattle.script_lines.specs.Reads.{HasRead, AreReadInOrder, last_line}
 use Rattle.script_lines.proofs.PlayedLemmas.{ArePlayed-push, is_bad, stops_at, ends_behind, whole, ends_none as lines_end}
-use Rattle.apei_cli.specs.Statuses.{GivesTable, FailsInRestart, IsUnwritten, EndsLines, LeavesLast, status_of}
-use Rattle.apei_cli.specs.Runs.{PlaysScript}
+use Rattle.apei_cli.specs.Statuses.{GivesTable, FailsInRestart, IsUnwritten, LeavesLast, status_of, LinesOf}
+use Rattle.apei_cli.specs.Runs.{PlaysLines}
 use Rattle.apei_cli.specs.declared.status.Status.{Status}
 use Rattle.apei_cli.specs.declared.status.Status.TheVariants.{BadLine, SinkFault, FlashFault, Memory}
 use Rattle.apei_notify.proofs.ToldLemmas.{told_none, told_then}
@@ -53,12 +54,13 @@ counts_after-push wants [] played counts = refl
 counts_after-push wants (first ∷ some) played counts = counts_after-push wants some played (heard_after wants first.blocks counts)
 
 pub Follows-push : (tells : Type 0) (wants : List (ℕ → Bool)) (counts : List ℕ) (first : PlayerState) (some : List Played) (mid : PlayerState) (played : Played) → Follows tells wants counts first some mid
-    → LinePlayed tells (counts_after wants some counts) mid played.line played.said played.blocks played.steps played.left → Follows tells wants counts first (some ++ played ∷ []) played.left
-Follows-push tells wants counts first [] mid played is line = (subst (λ (p : PlayerState). LinePlayed tells counts p played.line played.said played.blocks played.steps played.left) is line, refl)
+    → LinePlayed tells (counts_after wants some counts) mid played → Follows tells wants counts first (some ++ played ∷ []) played.left
+Follows-push tells wants counts first [] mid played is line = (subst (λ (p : PlayerState). LinePlayed tells counts p played) is line, refl)
 Follows-push tells wants counts first (one ∷ some) mid played is line = (is.0, Follows-push tells wants (heard_after wants one.blocks counts) one.left some mid played is.1 line)
 
-abbrev pub played_as : ScriptLine → List Reply → List (List ℕ) → List Step → PlayerState → Played
-played_as line said blocks steps left = record { line = line; said = said; blocks = blocks; steps = steps; left = left }
+-- the lines that a player played from the start of a script on
+abbrev pub PlaysScript : {L : Type 0} → (L → Hearing) → Type 0 → Stream → Stream → Stage PlayerState L → Stage PlayerState L → Status → Type 0
+PlaysScript hearing tells source sink old new status = PlaysLines hearing tells (LinesOf tells source sink status) old new status
 
 module _ {L : Type 0} (hearing : L → Hearing) (told_source told_sink tells : Type 0) where
   -- a run so far: the lines that were read, all of them played, and the listeners told
@@ -102,11 +104,11 @@ module _ {L : Type 0} (hearing : L → Hearing) (told_source told_sink tells : T
   -- a line that was played, behind some
   module _ (script rest written middle : List ℕ) (first members : List L) (old mid : PlayerState) (a : Reading) (so_far : SoFar hearing told_source told_sink tells script rest written middle first members old mid a)
       (line : ScriptLine) (said : List Reply) (blocks : List (List ℕ)) (steps : List Step) (new : PlayerState) (members_now : List L)
-      (played : LinePlayed tells (counts_of hearing members) mid line said blocks steps new) (told : Told hearing blocks members members_now) where
+      (played : LinePlayed tells (counts_of hearing members) mid (played_as line said blocks steps new)) (told : Told hearing blocks members members_now) where
     history_then : Follows tells (wants_of hearing first) (counts_of hearing first) old (so_far.played ++ played_as line said blocks steps new ∷ []) new
     history_then =
         Follows-push tells (wants_of hearing first) (counts_of hearing first) old so_far.played mid (played_as line said blocks steps new) so_far.history
-        (subst (λ (counts : List ℕ). LinePlayed tells counts mid line said blocks steps new) so_far.counts played)
+        (subst (λ (counts : List ℕ). LinePlayed tells counts mid (played_as line said blocks steps new)) so_far.counts played)
 
     told_now : Told hearing (blocks_of (so_far.played ++ played_as line said blocks steps new ∷ [])) first members_now
     told_now =
@@ -122,7 +124,7 @@ module _ {L : Type 0} (hearing : L → Hearing) (told_source told_sink tells : T
   -- one more line was read and played
   pub SoFar-played : (script rest rest_now written middle now : List ℕ) (first members members_now : List L) (old mid new : PlayerState) (a b : Reading) (line : ScriptLine)
       → SoFar hearing told_source told_sink tells script rest written middle first members old mid a → IsNextLine told_source a b rest rest_now → IsLineOf (λ (text : List ℕ). Means text line) (last_line b)
-      → PlaysLine hearing tells told_sink mid new members members_now line middle now → (tells → changes_of new.machine ≡ step_of new)
+      → PlaysLine hearing tells (stream_of told_sink middle now) (stage_in mid members) line (stage_in new members_now) → (tells → changes_of new.machine ≡ step_of new)
       → SoFar hearing told_source told_sink tells script rest_now written now first members_now old new b
   SoFar-played script rest rest_now written middle now first members members_now old mid new a b line so_far next is plays counts = record {
     lines = so_far.lines ++ last_line b ∷ [];
@@ -144,9 +146,9 @@ module _ {L : Type 0} (hearing : L → Hearing) (told_source told_sink tells : T
   -- a run that ends behind the lines that were played whole, with the listeners as these left them
   stopped : (script rest rest_now written middle now : List ℕ) (first members members_now : List L) (old mid new : PlayerState) (a : Reading) (status : Status)
       → (so_far : SoFar hearing told_source told_sink tells script rest written middle first members old mid a)
-      → EndsLines told_source told_sink tells script rest_now written now so_far.played mid.machine new.machine status → LeavesLast tells mid.machine new.machine status → members_now ≡ members
+      → LinesOf tells (stream_of told_source script rest_now) (stream_of told_sink written now) status so_far.played mid new.machine → LeavesLast tells mid.machine new.machine status → members_now ≡ members
       → (status ≡ FlashFault → HasHappened tells mid.machine new.machine × Rose mid.machine.device.store.flash.faults new.machine.device.store.flash.faults)
-      → PlaysScript hearing told_source told_sink tells script rest_now written now first members_now old new status
+      → PlaysScript hearing tells (stream_of told_source script rest_now) (stream_of told_sink written now) (stage_in old first) (stage_in new members_now) status
   stopped script rest rest_now written middle now first members members_now old mid new a status so_far lines behind quiet fault = record {
     played = so_far.played;
     last = mid;
@@ -161,23 +163,23 @@ module _ {L : Type 0} (hearing : L → Hearing) (told_source told_sink tells : T
   -- and whose machine is as they left it
   as_so_far : (script rest rest_now written middle now : List ℕ) (first members : List L) (old new : PlayerState) (a : Reading) (status : Status)
       → (so_far : SoFar hearing told_source told_sink tells script rest written middle first members old new a)
-      → EndsLines told_source told_sink tells script rest_now written now so_far.played new.machine new.machine status → LeavesLast tells new.machine new.machine status → (status ≡ FlashFault → ⊥)
-      → PlaysScript hearing told_source told_sink tells script rest_now written now first members old new status
+      → LinesOf tells (stream_of told_source script rest_now) (stream_of told_sink written now) status so_far.played new new.machine → LeavesLast tells new.machine new.machine status → (status ≡ FlashFault → ⊥)
+      → PlaysScript hearing tells (stream_of told_source script rest_now) (stream_of told_sink written now) (stage_in old first) (stage_in new members) status
   as_so_far script rest rest_now written middle now first members old new a status so_far lines behind other =
       stopped script rest rest_now written middle now first members members old new new a status so_far lines behind refl (λ e. absurd (other e))
 
   -- there is no next line
   pub ends_none : (script rest rest_now written now : List ℕ) (first members : List L) (old new : PlayerState) (a b : Reading) (ending : ScriptEnd)
       → EndsReading told_source a b rest rest_now ending → SoFar hearing told_source told_sink tells script rest written now first members old new a
-      → PlaysScript hearing told_source told_sink tells script rest_now written now first members old new (status_of ending)
+      → PlaysScript hearing tells (stream_of told_source script rest_now) (stream_of told_sink written now) (stage_in old first) (stage_in new members) (status_of ending)
   ends_none script rest rest_now written now first members old new a b ending end so_far =
       let has = has_status tells ending in
       as_so_far script rest rest_now written now now first members old new a (status_of ending) so_far (record {
         lines = so_far.lines;
         ends = λ told. has.ends script rest_now so_far.lines new.machine new.machine (lines_end IsLine GivesTable told_source script rest rest_now so_far.lines a b ending order so_far.read end told);
-        are = subst (PlaysByFault (λ (text : List ℕ) (one : Played). Means text one.line) (IsUnwritten told_sink written now) (λ (all : List Played). told_sink → now ≡ written ++ text_of all) so_far.lines so_far.played)
+        are = subst (PlaysByFault (λ (text : List ℕ) (one : Played). Means text one.line) (IsUnwritten (stream_of told_sink written now)) (λ (all : List Played). told_sink → now ≡ written ++ text_of all) so_far.lines so_far.played)
             has.fault
-            (whole (λ (text : List ℕ) (one : Played). Means text one.line) (IsUnwritten told_sink written now) (λ (all : List Played). told_sink → now ≡ written ++ text_of all)
+            (whole (λ (text : List ℕ) (one : Played). Means text one.line) (IsUnwritten (stream_of told_sink written now)) (λ (all : List Played). told_sink → now ≡ written ++ text_of all)
             told_source a b rest rest_now so_far.lines so_far.played ending end (so_far.are, so_far.text));
       })
       (has.leaves new.machine) has.no_flash
@@ -185,7 +187,7 @@ module _ {L : Type 0} (hearing : L → Hearing) (told_source told_sink tells : T
   -- the line that was read is none
   pub ends_bad : (script rest rest_now written now text : List ℕ) (first members : List L) (old new : PlayerState) (a b : Reading) (number column : ℕ)
       → IsNextLine told_source a b rest rest_now → number ≡ b.number → text ≡ b.line → BreaksAt IsLine text column → SoFar hearing told_source told_sink tells script rest written now first members old new a
-      → PlaysScript hearing told_source told_sink tells script rest_now written now first members old new (BadLine number column)
+      → PlaysScript hearing tells (stream_of told_source script rest_now) (stream_of told_sink written now) (stage_in old first) (stage_in new members) (BadLine number column)
   ends_bad script rest rest_now written now text first members old new a b number column next numbered same breaks so_far =
       as_so_far script rest rest_now written now now first members old new a (BadLine number column) so_far (record {
         lines = so_far.lines;
@@ -197,8 +199,8 @@ module _ {L : Type 0} (hearing : L → Hearing) (told_source told_sink tells : T
   -- its reply was refused by the sink
   pub ends_unwritten : (script rest rest_now written middle now : List ℕ) (first members members_now : List L) (old mid new : PlayerState) (a b : Reading) (line : ScriptLine)
       → SoFar hearing told_source told_sink tells script rest written middle first members old mid a → IsNextLine told_source a b rest rest_now → IsLineOf (λ (text : List ℕ). Means text line) (last_line b)
-      → PlaysUnwritten hearing tells told_sink mid new members members_now line middle now → (tells → changes_of new.machine ≡ step_of new)
-      → PlaysScript hearing told_source told_sink tells script rest_now written now first members_now old new SinkFault
+      → PlaysUnwritten hearing tells (stream_of told_sink middle now) (stage_in mid members) line (stage_in new members_now) → (tells → changes_of new.machine ≡ step_of new)
+      → PlaysScript hearing tells (stream_of told_source script rest_now) (stream_of told_sink written now) (stage_in old first) (stage_in new members_now) SinkFault
   ends_unwritten script rest rest_now written middle now first members members_now old mid new a b line so_far next is plays counts = record {
     played = so_far.played ++ played_as plays.made plays.said plays.blocks plays.steps new ∷ [];
     last = new;
@@ -237,7 +239,7 @@ module _ {L : Type 0} (hearing : L → Hearing) (told_source told_sink tells : T
   pub ends_failed : (script rest rest_now written middle now : List ℕ) (first members members_now : List L) (old mid new : PlayerState) (a b : Reading) (line : ScriptLine) (stop : PlayStop)
       → SoFar hearing told_source told_sink tells script rest written middle first members old mid a → IsNextLine told_source a b rest rest_now → IsLineOf (λ (text : List ℕ). Means text line) (last_line b)
       → Stops tells mid line new stop → stop ≡ RestartFailed → members_now ≡ members → now ≡ middle
-      → PlaysScript hearing told_source told_sink tells script rest_now written now first members_now old new FlashFault
+      → PlaysScript hearing tells (stream_of told_source script rest_now) (stream_of told_sink written now) (stage_in old first) (stage_in new members_now) FlashFault
   ends_failed script rest rest_now written middle now first members members_now old mid new a b line stop so_far next is stops why quiet said =
       stopped script rest rest_now written middle now first members members_now old mid new a FlashFault so_far (record {
         lines = so_far.lines;
@@ -264,7 +266,7 @@ module _ {L : Type 0} (hearing : L → Hearing) (told_source told_sink tells : T
   pub ends_memory : (script rest rest_now written middle now : List ℕ) (first members members_now : List L) (old mid new : PlayerState) (a b : Reading) (line : ScriptLine) (stop : PlayStop)
       → SoFar hearing told_source told_sink tells script rest written middle first members old mid a → IsNextLine told_source a b rest rest_now → IsLineOf (λ (text : List ℕ). Means text line) (last_line b)
       → Stops tells mid line new stop → stop ≡ NoMemory → members_now ≡ members → now ≡ middle
-      → PlaysScript hearing told_source told_sink tells script rest_now written now first members_now old new Memory
+      → PlaysScript hearing tells (stream_of told_source script rest_now) (stream_of told_sink written now) (stage_in old first) (stage_in new members_now) Memory
   ends_memory script rest rest_now written middle now first members members_now old mid new a b line stop so_far next is stops why quiet said =
       let left : Stops tells mid line new NoMemory = subst (Stops tells mid line new) why stops in
       let at = stops_here (IsLineOf GivesTable) script rest rest_now written middle first members old mid a b b.number so_far next refl

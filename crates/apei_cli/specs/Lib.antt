@@ -8,6 +8,7 @@ pub mod Numbers
 pub mod Messages
 pub mod Sim
 pub mod Orders
+pub mod Outcomes
 pub mod HubRuns
 pub mod Records
 pub mod Commands

@@ -4,6 +4,14 @@ use Rattle.apei_check.specs.declared.text.show.Show.{Show}
 use Rattle.apei_cli.specs.declared.job.Job.{Job}
 use Rattle.apei_cli.specs.declared.job.Plan.{Plan}
 
+-- how many commands of a seed are generated
+pub record Batch : Type 0 where
+  pub seed : ℕ
+  pub count : ℕ
+
+abbrev pub batch_of : ℕ → ℕ → Batch
+batch_of seed count = record { seed = seed; count = count }
+
 pub record Order : Type 0 where
   pub job : Job
   pub sector : ℕ

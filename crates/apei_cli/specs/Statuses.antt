@@ -5,6 +5,7 @@ use Rattle.clap_words.specs.declared.error.WordsError.TheVariants as words
 use Rattle.erst_machine.specs.MachineState.{MachineState}
 use Rattle.script_text.specs.ScriptGrammar.{Line as ScriptLine, IsLine}
 use Rattle.script_text.specs.ScriptText.{Means}
+use Rattle.apei_script.specs.Players.{PlayerState}
 use Rattle.apei_script.specs.Words.{Reply}
 use Rattle.apei_script.specs.Plays.{LeftIn, FailsRestart, BringsTable, PartlyWritten}
 use Rattle.apei_script.specs.History.{Played, text_of}
@@ -12,6 +13,7 @@ use Rattle.script_lines.specs.declared.ending.ScriptEnd.{ScriptEnd}
 use Rattle.script_lines.specs.declared.ending.ScriptEnd.TheVariants as ending
 use Rattle.script_lines.specs.Causes.{Fault, OfSource, OfSink, NoFault}
 use Rattle.script_lines.specs.Lines.{Line}
+use Rattle.script_lines.specs.Streams.{Stream}
 use Rattle.script_lines.specs.Played.{IsLineOf, StopsAt, EndsBehind, PlaysByFault}
 use Rattle.apei_cli.specs.declared.status.Status.{Status}
 use Rattle.apei_cli.specs.declared.status.Status.TheVariants.{Done, BadWords, BadLine, SourceFault, SinkFault, FlashFault, BadGeometry, TooLong, Memory}
@@ -68,22 +70,22 @@ LeavesLast tells last final status = final ≡ last
 
 -- the sink refused a reply of the line that was played last, behind some that were played whole: what is left of it says which reply. What was
 -- written are the replies to the lines before it, of its own those before that one, and a part of that
-pub record IsUnwritten (told_sink : Type 0) (written written_now : List ℕ) (first : List Played) (text : List ℕ) (last : Played) : Type 0 where
+pub record IsUnwritten (sink : Stream) (first : List Played) (text : List ℕ) (last : Played) : Type 0 where
   pub line : ScriptLine
   pub means : Means text line
   pub before : List Reply
   pub unwritten : Reply
   pub left : LeftIn line last.line last.said before unwritten
-  pub wrote : told_sink → PartlyWritten before unwritten (written ++ text_of first) written_now
+  pub wrote : sink.tells → PartlyWritten before unwritten (sink.before ++ text_of first) sink.after
 
 -- these lines were played, and their replies written; but where the sink failed, the last in part
-abbrev pub ArePlayedBy : Type 0 → List ℕ → List ℕ → List Line → List Played → Status → Type 0
-ArePlayedBy told_sink written written_now lines played status =
-    PlaysByFault (λ (text : List ℕ) (one : Played). Means text one.line) (IsUnwritten told_sink written written_now)
-    (λ (all : List Played). told_sink → written_now ≡ written ++ text_of all) lines played (fault_of status)
+abbrev pub ArePlayedBy : Stream → List Line → List Played → Status → Type 0
+ArePlayedBy sink lines played status =
+    PlaysByFault (λ (text : List ℕ) (one : Played). Means text one.line) (IsUnwritten sink)
+    (λ (all : List Played). sink.tells → sink.after ≡ sink.before ++ text_of all) lines played (fault_of status)
 
--- the lines that were played and what was written, by the status
-pub record EndsLines (told_source told_sink tells : Type 0) (script rest written written_now : List ℕ) (played : List Played) (last final : MachineState) (status : Status) : Type 0 where
+-- the lines of a script, from its start on, that were played, and what was written, by the status
+pub record LinesOf (tells : Type 0) (source sink : Stream) (status : Status) (played : List Played) (last : PlayerState) (final : MachineState) : Type 0 where
   pub lines : List Line
-  pub ends : told_source → EndsBy tells script rest lines last final status
-  pub are : ArePlayedBy told_sink written written_now lines played status
+  pub ends : source.tells → EndsBy tells source.before source.after lines last.machine final status
+  pub are : ArePlayedBy sink lines played status

@@ -1,6 +1,7 @@
 -- The line that sums up what was played.
 use Rattle.std.specs.Prelude.{◌≡◌, ℕ, Bool, List, [], ◌∷◌, ◌++◌, codes, decimal, map, Result, Ok, Err}
 use Rattle.erst_client.specs.declared.errors.ClientError.{ClientError}
+use Rattle.script_lines.specs.Streams.{Stream}
 use Rattle.script_text.specs.ScriptGrammar.{count}
 use Rattle.apei_script.specs.Players.{PlayerState}
 use Rattle.apei_script.specs.Words.{said_at, words_of_count}
@@ -9,6 +10,7 @@ use Rattle.apei_script.specs.History.{Played, Follows, AreCounted, AreOwnLines, 
 use Rattle.apei_cli.specs.declared.generate.tally.Tally.{Tally}
 use Rattle.apei_cli.specs.Commands.{generated_lines}
 use Rattle.apei_cli.specs.Generated.{tally_of}
+use Rattle.apei_cli.specs.Orders.{Batch}
 
 -- the number of records that the words of a count's reply tell: none where it was refused
 pub data TellsLive : List ℕ → ℕ → Type 0 where
@@ -29,11 +31,10 @@ WritesText text written written_now (Err error) = (part rest : List ℕ) × (tex
 -- The lines that a seed generates were played, one after another, and then one that counts the records, whatever the listeners have heard.
 -- What was written sums them up: the lines of each kind and those that were refused, without the last one; the records by its reply; and
 -- the flash step at which it ended
-pub record IsGenerated {E : Type 0} (tells told_sink : Type 0) (old : PlayerState) (seed commands : ℕ) (new : PlayerState) (written written_now : List ℕ)
-    (result : Result (Unit {0}) E) : Type 0 where
+pub record IsGenerated {E : Type 0} (tells : Type 0) (sink : Stream) (old : PlayerState) (batch : Batch) (new : PlayerState) (result : Result (Unit {0}) E) : Type 0 where
   pub played : List Played
   pub last : Played
-  pub lines : map (λ (one : Played). one.line) played ≡ generated_lines seed commands
+  pub lines : map (λ (one : Played). one.line) played ≡ generated_lines batch.seed batch.count
   pub asked : last.line ≡ count
   pub history : (wants : List (ℕ → Bool)) (counts : List ℕ) → Follows tells wants counts old (played ++ last ∷ []) new
   pub counted : tells → AreCounted (played ++ last ∷ [])
@@ -44,4 +45,4 @@ pub record IsGenerated {E : Type 0} (tells told_sink : Type 0) (old : PlayerStat
   pub said : last.said ≡ said_at (step_of new) (words ∷ [])
   pub live : ℕ
   pub told_live : TellsLive words live
-  pub text : told_sink → WritesText (summary_of commands (tally_of played) live (step_of new)) written written_now result
+  pub text : sink.tells → WritesText (summary_of batch.count (tally_of played) live (step_of new)) sink.before sink.after result

@@ -32,11 +32,12 @@ use Rattle.erst_bridge.specs.declared.made.MadeTurn.{MadeTurn}
 use Rattle.erst_bridge.specs.Made.{turn_of, told_turn, side_in, sides_in, made_by, AreCounted}
 use Rattle.erst_bridge.proofs.TurnsLemmas.{told_again, sides_more, made_more, counted_more, turns_more}
 use Rattle.script_text.specs.ScriptGrammar.{Line, turns}
+use Rattle.script_lines.specs.Streams.{stream_of}
 use Rattle.apei_script.specs.Players.{PlayerState, budget_of}
 use Rattle.apei_script.specs.Words.{Reply, at_step, said_at, words_of_block, text_of_reply, text_of_replies, reply_at}
 use Rattle.script_text.specs.Turns.{side_of}
 use Rattle.apei_script.specs.Bridged.{words_of_turn, words_of_step, words_of_steps, words_of_made, HasTaken, block_of, blocks_in, block_replies, replies_of, ByBridge, Enters, StaysAs, BridgesTurns, TurnsShown}
-use Rattle.apei_script.specs.Plays.{Plays, Blank, ByClient, GivenTable, OwnTable, GivenShadow, OnMachine, ByTheBridge, OnlyTells, Reset, Power, Told, changes_in, LinePlayed, PlaysLine, PlaysUnwritten, LeftIn, AtLast, InBridged}
+use Rattle.apei_script.specs.Plays.{Plays, Blank, ByClient, GivenTable, OwnTable, GivenShadow, OnMachine, ByTheBridge, OnlyTells, Reset, Power, Told, changes_in, LinePlayed, PlaysLine, PlaysUnwritten, LeftIn, AtLast, InBridged, stage_in, played_as}
 use Rattle.apei_script.specs.History.{ShowsLine}
 use Rattle.apei_script.specs.declared.session.Session.{Session}
 use Rattle.apei_script.specs.Sessions.{state_of, SameClients}
@@ -60,9 +61,9 @@ module _ (tells : Type 0) (programs : OwnProgramsRun tells) (told : tells) (clie
   }
 
 pub line_turned : (tells : Type 0) → OwnProgramsRun tells → tells → (counts : List ℕ) (old : PlayerState) (line : Line) (said : List Reply) (blocks : List (List ℕ)) (steps : List Step) (new : PlayerState)
-    → Plays tells counts old line said blocks steps new → IsMachine old.machine → old.own ≡ own_client old.machine → TurnsShown (budget_of old) old.bridge old.machine steps new.machine
+    → Plays tells counts old (played_as line said blocks steps new) → IsMachine old.machine → old.own ≡ own_client old.machine → TurnsShown (budget_of old) old.bridge old.machine steps new.machine
 line_turned tells programs told counts old line said blocks steps new plays machine own =
-    elim plays as (λ line said blocks steps new plays. TurnsShown (budget_of old) old.bridge old.machine steps new.machine) [
+    elim plays as (λ one plays. TurnsShown (budget_of old) old.bridge old.machine one.steps one.left.machine) [
       | Blank ↦ shows_none old.bridge old.machine old.machine
       | ByClient line words machine commanded ↦ shows_none old.bridge old.machine machine
       | GivenTable hex bytes words machine other decoded gives ↦ shows_none old.bridge old.machine machine
@@ -291,7 +292,7 @@ module _ {L : Type 0} (hearing : L → Hearing) (tells told_sink : Type 0) (prog
   SoFar = BridgedSoFar hearing tells told_sink old.own (budget_of old) old.bridge old.machine members written
 
   turns_played : (letters : List ℕ) (steps : List Step) → AreTurns tells old.own (budget_of old) old.bridge old.machine steps new.bridge new.machine → sides_in steps ≡ map side_of letters
-      → (tells → AreCounted steps) → LinePlayed tells (counts_of hearing members) old (turns letters) (replies_of (changes_in new.machine) steps) (blocks_in steps) steps new
+      → (tells → AreCounted steps) → LinePlayed tells (counts_of hearing members) old (played_as (turns letters) (replies_of (changes_in new.machine) steps) (blocks_in steps) steps new)
   turns_played letters steps are sides counted = quiet_with tells (counts_of hearing members) old (turns letters) (replies_of (changes_in new.machine) steps) (blocks_in steps) steps new refl
       (ByTheBridge (turns letters) (replies_of (changes_in new.machine) steps) (blocks_in steps) steps new.bridge new.machine (BridgesTurns letters steps new.bridge new.machine on are sides counted))
       (λ told own. turns_shown tells programs told old.own (budget_of old) old.bridge old.machine steps new.bridge new.machine own machine are)
@@ -306,7 +307,7 @@ module _ {L : Type 0} (hearing : L → Hearing) (tells told_sink : Type 0) (prog
   pub turns_all : (members_now : List L) (all : List ℕ) (k : ℕ) (made : List MadeTurn) (written_now written_then : List ℕ) (step : ℕ) → length all ≤ k
       → SoFar new.bridge new.machine members_now (take k all) made written_now → step ≡ changes_in new.machine
       → (told_sink → written_then ≡ written_now ++ reply_at step (words_of_made made))
-      → PlaysLine hearing tells told_sink old new members members_now (turns all) written written_then
+      → PlaysLine hearing tells (stream_of told_sink written written_then) (stage_in old members) (turns all) (stage_in new members_now)
   turns_all members_now all k made written_now written_then step end so at text = record {
     said = replies_of (changes_in new.machine) so.steps;
     blocks = blocks_in so.steps;
@@ -321,7 +322,7 @@ module _ {L : Type 0} (hearing : L → Hearing) (tells told_sink : Type 0) (prog
   pub turns_unwritten : (members_now : List L) (all : List ℕ) (k : ℕ) (made : List MadeTurn) (written_now written_then : List ℕ) (step : ℕ) → length all ≤ k
       → SoFar new.bridge new.machine members_now (take k all) made written_now → step ≡ changes_in new.machine
       → (told_sink → (n : ℕ) × (written_then ≡ written_now ++ take n (reply_at step (words_of_made made))))
-      → PlaysUnwritten hearing tells told_sink old new members members_now (turns all) written written_then
+      → PlaysUnwritten hearing tells (stream_of told_sink written written_then) (stage_in old members) (turns all) (stage_in new members_now)
   turns_unwritten members_now all k made written_now written_then step end so at text = record {
     made = turns all;
     said = replies_of (changes_in new.machine) so.steps;
@@ -346,7 +347,7 @@ module _ {L : Type 0} (hearing : L → Hearing) (tells told_sink : Type 0) (prog
       → (tells → changes_of new.machine ≡ step) → step ≡ changes_in new.machine → HasTaken (turn_of turn)
       → Told hearing (new.machine.handover.last ∷ []) members_mid members_now
       → (told_sink → (n : ℕ) × (written_now ≡ written_mid ++ take n (reply_at (changes_in new.machine) (words_of_block new.machine.handover.last))))
-      → PlaysUnwritten hearing tells told_sink old new members members_now (turns all) written written_now
+      → PlaysUnwritten hearing tells (stream_of told_sink written written_now) (stage_in old members) (turns all) (stage_in new members_now)
   turns_cut mid before members_mid members_now all k made written_mid written_now turn step more so is side counted at taken telling text =
       let last : Step = record { turn = turn_of turn; bridge = new.bridge; machine = new.machine } in
       let took = taken_is (turn_of turn) taken in
@@ -386,8 +387,8 @@ shows_at_start tells told client budget old line (step ∷ rest) next last are s
     by_test false e = inl same
 
 pub shows_at_first : (tells : Type 0) → tells → (counts : List ℕ) (old : PlayerState) (line : Line) (said : List Reply) (blocks : List (List ℕ)) (steps : List Step) (new : PlayerState)
-    → Plays tells counts old line said blocks steps new → (s : ℕ) (shown : Stored) → s < changes_of old.machine → shown ≡ records_of old.machine → ShowsLine s old line steps shown
-shows_at_first tells told counts old line said blocks steps now plays s shown before same = elim plays as (λ line said blocks steps new plays. ShowsLine s old line steps shown) [
+    → Plays tells counts old (played_as line said blocks steps new) → (s : ℕ) (shown : Stored) → s < changes_of old.machine → shown ≡ records_of old.machine → ShowsLine s old line steps shown
+shows_at_first tells told counts old line said blocks steps now plays s shown before same = elim plays as (λ one plays. ShowsLine s old one.line one.steps shown) [
   | ByTheBridge line said blocks steps next machine by ↦ elim by as (λ line said blocks steps next machine by. ShowsLine s old line steps shown) [
     | BridgesTurns letters steps next machine on are sides counted ↦ shows_at_start tells told old.own (budget_of old) old (turns letters) steps next machine are s shown before same
     | other ↦ inl same
@@ -416,12 +417,12 @@ module _ {F L : Type 0} (hearing : L → Hearing) (tells told_sink : Type 0) (ol
   behind_all = other_bridge old new clients ∙ ap (λ (b : BridgeState). record (state_of old) { machine = new.machine; bridge = b }) bridge
       ∙ ap (λ (m : MachineState). record (state_of old) { machine = m; bridge = now }) machine
 
-  pub played_by : (members members_now : List L) (line : Line) (written written_now : List ℕ) → PlaysLine hearing tells told_sink (state_of old) (record (state_of old) { machine = final; bridge = now }) members members_now line written written_now
-      → PlaysLine hearing tells told_sink (state_of old) (state_of new) members members_now line written written_now
+  pub played_by : (members members_now : List L) (line : Line) (written written_now : List ℕ) → PlaysLine hearing tells (stream_of told_sink written written_now) (stage_in (state_of old) members) line (stage_in (record (state_of old) { machine = final; bridge = now }) members_now)
+      → PlaysLine hearing tells (stream_of told_sink written written_now) (stage_in (state_of old) members) line (stage_in (state_of new) members_now)
   played_by members members_now line written written_now plays =
-      subst (λ (p : PlayerState). PlaysLine hearing tells told_sink (state_of old) p members members_now line written written_now) (sym behind_all) plays
+      subst (λ (p : PlayerState). PlaysLine hearing tells (stream_of told_sink written written_now) (stage_in (state_of old) members) line (stage_in p members_now)) (sym behind_all) plays
 
-  pub unwritten_by : (members members_now : List L) (line : Line) (written written_now : List ℕ) → PlaysUnwritten hearing tells told_sink (state_of old) (record (state_of old) { machine = final; bridge = now }) members members_now line written written_now
-      → PlaysUnwritten hearing tells told_sink (state_of old) (state_of new) members members_now line written written_now
+  pub unwritten_by : (members members_now : List L) (line : Line) (written written_now : List ℕ) → PlaysUnwritten hearing tells (stream_of told_sink written written_now) (stage_in (state_of old) members) line (stage_in (record (state_of old) { machine = final; bridge = now }) members_now)
+      → PlaysUnwritten hearing tells (stream_of told_sink written written_now) (stage_in (state_of old) members) line (stage_in (state_of new) members_now)
   unwritten_by members members_now line written written_now plays =
-      subst (λ (p : PlayerState). PlaysUnwritten hearing tells told_sink (state_of old) p members members_now line written written_now) (sym behind_all) plays
+      subst (λ (p : PlayerState). PlaysUnwritten hearing tells (stream_of told_sink written written_now) (stage_in (state_of old) members) line (stage_in p members_now)) (sym behind_all) plays

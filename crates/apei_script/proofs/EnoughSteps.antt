@@ -13,6 +13,7 @@ use Rattle.erst_commands.proofs.ThroughLemmas.{clear_through, dummy_through, cou
 use Rattle.script_text.specs.ScriptGrammar.{Line, IsValid}
 use Rattle.script_text.specs.RunWords.{words_of_stop}
 use Rattle.script_text.proofs.RefusalLemmas.{told}
+use Rattle.apei_script.specs.Players.{asker_of}
 use Rattle.apei_script.specs.Words.{refused}
 use Rattle.apei_script.specs.Asked.{Asked, WritesRecord, ReadsRecord, ClearsRecord, CountsRecords, FindsNext, WritesDummy, RunsAction}
 use Rattle.apei_script.specs.Plays.{names_command}
@@ -38,7 +39,7 @@ says_neither words result through of = record {
 }
 
 pub asked_through : (tells : Type 0) → OwnProgramsRun tells → (steps : ℕ) (old : MachineState) → IsMachine old → enough_steps (own_client old).timings ≤ steps
-    → (line : Line) (words : List ℕ) (new : MachineState) → Asked tells (own_client old) steps old line words new → IsValid line → names_command line ≡ true → SaysNeither words
+    → (line : Line) (words : List ℕ) (new : MachineState) → Asked tells (asker_of (own_client old) steps) old line words new → IsValid line → names_command line ≡ true → SaysNeither words
 asked_through tells own steps old machine enough line words new asked = elim asked as (λ line words new asked. IsValid line → names_command line ≡ true → SaysNeither words) [
   | WritesRecord hex bytes result left new decoded writes ↦ λ valid names.
       says_neither _ result (client_write_through tells own old machine steps enough bytes result left new writes) (λ refusal. of_write refusal bytes result)

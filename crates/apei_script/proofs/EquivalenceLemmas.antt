@@ -51,7 +51,7 @@ use Rattle.apei_script.specs.Players.{PlayerState, client_of, budget_of, with_ma
 use Rattle.apei_script.specs.Words.{Reply, at_step, said_at, text_of_replies, refused, words_of_write, words_of_read, words_of_clear, words_of_count, words_of_next, words_of_dummy, words_of_action, words_of_table, words_of_no_table, words_of_record, words_of_turns, words_of_block, words_of_bert, words_of_reset, words_of_power}
 use Rattle.apei_script.specs.Tables.{ATTACH_STEPS, BeginsWith, GivesShadow}
 use Rattle.apei_script.specs.Bridged.{is_on, bridge_refusal, words_of_bridge, words_of_turn, words_of_steps, block_of, blocks_in, block_replies, replies_of}
-use Rattle.apei_script.specs.Plays.{words_told, Plays, restarted, changes_in, step_of}
+use Rattle.apei_script.specs.Plays.{words_told, Plays, restarted, changes_in, step_of, played_as}
 use Rattle.apei_script.specs.History.{Played, heard_of, heard_after, Follows, text_of, reply_of}
 use Rattle.apei_script.specs.Equivalence.{EquivalentPlayers, own_player, WantAlike, lines_in, said_in, taken_in, PlayedAlike}
 use Rattle.apei_script.proofs.HistoryLemmas.{history_goes_on}
@@ -424,13 +424,13 @@ module _ (tells : Type 0) (told : tells) where
       λ i. record { machine = also.machine; own = own i; other = other i; steps = steps i; bridge = states i }
 
   played_alike : MakeTurns → (counts : List ℕ) (one also : PlayerState) → EquivalentPlayers one also → IsMachine one.machine → (line : Line) (said also_said : List Reply) (blocks also_blocks : List (List ℕ)) (steps also_steps : List Step) (new also_new : PlayerState)
-      → Plays tells counts one line said blocks steps new → FailedNothing one.machine new.machine → Plays tells counts also line also_said also_blocks also_steps also_new → FailedNothing also.machine also_new.machine
+      → Plays tells counts one (played_as line said blocks steps new) → FailedNothing one.machine new.machine → Plays tells counts also (played_as line also_said also_blocks also_steps also_new) → FailedNothing also.machine also_new.machine
       → LineAlike said also_said blocks also_blocks new also_new
   played_alike make_turns counts one also players machine line said also_said blocks also_blocks steps also_steps new also_new first quiet second also_quiet =
       line_alike make_turns counts one also.machine players.machines machine line said also_said blocks also_blocks new also_new
       (plays_by tells counts one line said blocks steps new first) quiet
       (plays_by tells counts (with_machine also.machine one) line also_said also_blocks also_steps also_new
-      (subst (λ (p : PlayerState). Plays tells counts p line also_said also_blocks also_steps also_new) (is_other one also players) second)) also_quiet
+      (subst (λ (p : PlayerState). Plays tells counts p (played_as line also_said also_blocks also_steps also_new)) (is_other one also players) second)) also_quiet
 
 -- the listeners hear the same
 same_wanted : (want wants_too : ℕ → Bool) (blocks : List (List ℕ)) → ((severity : ℕ) → want severity ≡ wants_too severity) → wanted want blocks ≡ wanted wants_too blocks
@@ -459,7 +459,7 @@ module _ (tells : Type 0) (told : tells) (make_turns : MakeTurns tells told) (wa
       let one_rest = (history_goes_on tells told wants (heard_after wants x.blocks counts) x.left first one_last follows.1).1.never_falls in
       let also_step = follows_too.0.happened.never_falls in
       let also_rest = (history_goes_on tells told wants_too (heard_after wants_too y.blocks counts) y.left second also_last follows_too.1).1.never_falls in
-      let plays_too = subst (λ (l : Line). Plays tells counts also l y.said y.blocks y.steps y.left) (sym line) follows_too.0.plays in
+      let plays_too = subst (λ (l : Line). Plays tells counts also (played_as l y.said y.blocks y.steps y.left)) (sym line) follows_too.0.plays in
       let both = played_alike tells told make_turns counts one also players machine x.line x.said y.said x.blocks y.blocks x.steps y.steps x.left y.left
       follows.0.plays (quiet_first (faults_of one.machine) (faults_of x.left.machine) (faults_of one_last.machine) one_step one_rest quiet)
       plays_too (quiet_first (faults_of also.machine) (faults_of y.left.machine) (faults_of also_last.machine) also_step also_rest also_quiet) in

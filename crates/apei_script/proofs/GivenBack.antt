@@ -30,7 +30,7 @@ use Rattle.apei_script.specs.Words.{Reply}
 use Rattle.apei_script.specs.Tables.{GivesTable, IsNoTable, IsNotAttached, IsAttached}
 use Rattle.apei_script.specs.Happened.{Happened, Once, Turn as TurnLine, IsListed}
 use Rattle.apei_script.specs.Bridged.{NeedsNoBridge, ByBridge, Enters, StaysAs, BridgesTurns}
-use Rattle.apei_script.specs.Plays.{Plays, Blank, ByClient, GivenTable, OwnTable, GivenShadow, OnMachine, ByTheBridge, OnlyTells, Reset, Power}
+use Rattle.apei_script.specs.Plays.{Plays, Blank, ByClient, GivenTable, OwnTable, GivenShadow, OnMachine, ByTheBridge, OnlyTells, Reset, Power, played_as}
 use Rattle.apei_script.specs.History.{Played, heard_after, Follows}
 use Rattle.apei_script.specs.Orders.{IsInStep, StoredBlock, stored_behind, stored_behind_all, GivesStoredBack, GiveStoredBack, AllGiveStoredBack}
 use Rattle.apei_script.proofs.OneEvent.{IsQuiet, once}
@@ -159,11 +159,11 @@ module _ (tells : Type 0) where
       ]
 
   line_gives : (last : Option StoredBlock) (counts : List ℕ) (old : PlayerState) (line : Line) (said : List Reply) (blocks : List (List ℕ)) (steps : List Step) (new : PlayerState)
-      → Plays tells counts old line said blocks steps new → IsInStep old → IsAtHand last old.bridge old.machine
+      → Plays tells counts old (played_as line said blocks steps new) → IsInStep old → IsAtHand last old.bridge old.machine
       → GiveStoredBack last old.bridge old.machine steps × IsAtHand (stored_behind_all last old.bridge steps) new.bridge new.machine
   line_gives last counts old line said blocks steps new plays =
-      elim plays as (λ line said blocks steps new plays. IsInStep old → IsAtHand last old.bridge old.machine
-      → GiveStoredBack last old.bridge old.machine steps × IsAtHand (stored_behind_all last old.bridge steps) new.bridge new.machine) [
+      elim plays as (λ one plays. IsInStep old → IsAtHand last old.bridge old.machine
+      → GiveStoredBack last old.bridge old.machine one.steps × IsAtHand (stored_behind_all last old.bridge one.steps) one.left.bridge one.left.machine) [
         | Blank ↦ λ step held. (tt, held)
         | ByClient line words now commanded ↦ λ step held. (tt, at_hand_on last old.bridge old.machine now (reached_last old.machine now commanded.reaches) held)
         | GivenTable hex bytes words now other decoded gives ↦ λ step held. (tt, at_hand_on last old.bridge old.machine now (table_last old.machine old.other bytes words now other gives) held)

@@ -21,7 +21,7 @@ use Rattle.apei_script.specs.Words.{Reply}
 use Rattle.erst_client.specs.Commands.{ClientState}
 use Rattle.erst_shadow.specs.ShadowCommands.{shadow_client}
 use Rattle.apei_script.specs.Players.{PlayerState, in_use, UsesOwn, UsesShadow, UsesEither, GivenNoOther}
-use Rattle.apei_script.specs.Plays.{Plays, Blank, ByClient, GivenTable, OwnTable, GivenShadow, OnMachine, ByTheBridge, OnlyTells, Reset, Power, HasHappened, LinePlayed, names_command, IsOwnLine}
+use Rattle.apei_script.specs.Plays.{Plays, Blank, ByClient, GivenTable, OwnTable, GivenShadow, OnMachine, ByTheBridge, OnlyTells, Reset, Power, HasHappened, LinePlayed, names_command, IsOwnLine, played_as}
 use Rattle.apei_script.specs.History.{Played, heard_after, Follows, EndInOrder, ShowsLine, ShowsLines, ShowsEachLine, AreOwnLines, IsMapped, IsShadowMapped, AreMapped, NoneSaysHardware, AllGoThrough, AlwaysUsesEither}
 use Rattle.apei_script.proofs.EventChanges.{along}
 use Rattle.apei_script.proofs.LineLemmas.{line_divides, line_own}
@@ -48,10 +48,10 @@ uses_either state own (inr given) = inr (ap (in_use state.own) given)
 
 module _ (tells : Type 0) where
   -- only a table of a line gives another client
-  pub no_other : (counts : List ℕ) (old : PlayerState) (line : Line) (said : List Reply) (blocks : List (List ℕ)) (steps : List Step) (new : PlayerState) → Plays tells counts old line said blocks steps new
+  pub no_other : (counts : List ℕ) (old : PlayerState) (line : Line) (said : List Reply) (blocks : List (List ℕ)) (steps : List Step) (new : PlayerState) → Plays tells counts old (played_as line said blocks steps new)
       → IsOwnLine line → GivenNoOther old → GivenNoOther new
   no_other counts old line said blocks steps new plays own given =
-      elim plays as (λ line said blocks steps new plays. new.machine.device.store.layout ≡ old.machine.device.store.layout → IsOwnLine line → GivenNoOther new) [
+      elim plays as (λ one plays. one.left.machine.device.store.layout ≡ old.machine.device.store.layout → IsOwnLine one.line → GivenNoOther one.left) [
         | Blank ↦ λ same own. given
         | ByClient line words machine commanded ↦ λ same own. stays_given old.other old.machine machine same given
         | GivenTable hex bytes words machine other decoded gives ↦ λ same own. absurd own
@@ -130,13 +130,13 @@ module _ (tells : Type 0) where
       (is.0.enough, history_goes_through wants (heard_after wants line.blocks counts) line.left rest last is.1)
 
   module _ (told : tells) where
-    is_mapped : (counts : List ℕ) (old : PlayerState) (played : Played) → LinePlayed tells counts old played.line played.said played.blocks played.steps played.left → UsesOwn old → names_command played.line ≡ true
+    is_mapped : (counts : List ℕ) (old : PlayerState) (played : Played) → LinePlayed tells counts old played → UsesOwn old → names_command played.line ≡ true
         → IsMapped old played
     is_mapped counts old played line uses names =
         let by_map = line.by_map told uses names in
         record { words = by_map.0; said = by_map.1; mapped = by_map.2; cause = line.cause (inl uses) names; enough = line.enough (inl uses) names }
 
-    is_shadow_mapped : (counts : List ℕ) (old : PlayerState) (played : Played) → LinePlayed tells counts old played.line played.said played.blocks played.steps played.left → UsesShadow old
+    is_shadow_mapped : (counts : List ℕ) (old : PlayerState) (played : Played) → LinePlayed tells counts old played → UsesShadow old
         → names_command played.line ≡ true → IsShadowMapped old played
     is_shadow_mapped counts old played line uses names =
         let mapped = line.by_shadow told uses names in
@@ -158,7 +158,7 @@ module _ (tells : Type 0) where
     history_goes_on wants counts first played last is =
         let all = one_list wants counts first played last is in (length all.0, (events_are_shown tells told first.machine last.machine all.0 all.1).goes_on)
 
-    line_goes_on : (counts : List ℕ) (old : PlayerState) (line : Line) (said : List Reply) (blocks : List (List ℕ)) (steps : List Step) (new : PlayerState) → LinePlayed tells counts old line said blocks steps new
+    line_goes_on : (counts : List ℕ) (old : PlayerState) (line : Line) (said : List Reply) (blocks : List (List ℕ)) (steps : List Step) (new : PlayerState) → LinePlayed tells counts old (played_as line said blocks steps new)
         → (n : ℕ) × GoesOn n old.machine new.machine
     line_goes_on counts old line said blocks steps new played =
         let happened = played.happened in (length happened.trail, (events_are_shown tells told old.machine new.machine happened.trail happened.happens).goes_on)
@@ -188,7 +188,7 @@ module _ (tells : Type 0) where
 
     -- one line
     line_shows : (counts : List ℕ) (old : PlayerState) (played : Played) → old.own ≡ own_client old.machine → GivenNoOther old → IsOwnLine played.line
-        → LinePlayed tells counts old played.line played.said played.blocks played.steps played.left → (steps : List Step) → played.steps ≡ steps
+        → LinePlayed tells counts old played → (steps : List Step) → played.steps ≡ steps
         → (s : ℕ) (image : List ℕ) → changes_of old.machine ≤ s → CrashImage (told_of played.left.machine) s image → ShowsLine s old played.line steps (shown_by old.machine image)
     line_shows counts old played own given is line [] unmade s image from crash = (line.leaves told (λ _. uses_either old own given) is unmade).each s image from crash
     line_shows counts old played own given is line (step ∷ rest) some s image from crash =

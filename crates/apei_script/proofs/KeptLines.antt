@@ -30,7 +30,7 @@ use Rattle.apei_script.specs.Players.{PlayerState, client_of, budget_of, GivenNo
 use Rattle.apei_script.specs.Words.{Reply}
 use Rattle.apei_script.specs.Mapped.{after_write, after_line}
 use Rattle.apei_script.specs.Bridged.{ByBridge, Enters, StaysAs, BridgesTurns, KeepsBlocks}
-use Rattle.apei_script.specs.Plays.{Plays, ByTheBridge, LinePlayed, IsOwnLine}
+use Rattle.apei_script.specs.Plays.{Plays, ByTheBridge, LinePlayed, IsOwnLine, played_as}
 use Rattle.apei_script.specs.History.{Played, heard_after, Follows, ShowsLine, ShowsLines, AreOwnLines}
 use Rattle.apei_script.specs.Spares.{Spares, SpareTurns, SpareLines, KeepsAll}
 use Rattle.apei_script.proofs.KeptTurns.{kept_turns, blocks_kept}
@@ -78,10 +78,10 @@ not_behind false P Q e h = h
 
 module _ (tells : Type 0) where
   -- a line made no turn of the bridge, or all of them are its steps
-  pub line_turns : (counts : List ℕ) (old : PlayerState) (line : Line) (said : List Reply) (blocks : List (List ℕ)) (steps : List Step) (new : PlayerState) → Plays tells counts old line said blocks steps new
+  pub line_turns : (counts : List ℕ) (old : PlayerState) (line : Line) (said : List Reply) (blocks : List (List ℕ)) (steps : List Step) (new : PlayerState) → Plays tells counts old (played_as line said blocks steps new)
       → (steps ≡ []) ⊎ AreTurns tells old.own (budget_of old) old.bridge old.machine steps new.bridge new.machine
   line_turns counts old line said blocks steps new plays =
-      elim plays as (λ line said blocks steps new plays. (steps ≡ []) ⊎ AreTurns tells old.own (budget_of old) old.bridge old.machine steps new.bridge new.machine) [
+      elim plays as (λ one plays. (one.steps ≡ []) ⊎ AreTurns tells old.own (budget_of old) old.bridge old.machine one.steps one.left.bridge one.left.machine) [
         | ByTheBridge line said blocks steps state machine by ↦ of_bridge line said blocks steps state machine by
         | other ↦ inl refl
       ]
@@ -94,23 +94,23 @@ module _ (tells : Type 0) where
         | BridgesTurns letters steps state machine on are sides counted ↦ inr are
       ]
 
-  pub machine_then : (counts : List ℕ) (old : PlayerState) (played : Played) → LinePlayed tells counts old played.line played.said played.blocks played.steps played.left → IsMachine old.machine → IsMachine played.left.machine
+  pub machine_then : (counts : List ℕ) (old : PlayerState) (played : Played) → LinePlayed tells counts old played → IsMachine old.machine → IsMachine played.left.machine
   machine_then counts old played line machine = events_keep tells old.machine played.left.machine line.happened.trail line.happened.happens machine
 
-  pub own_then : (counts : List ℕ) (old : PlayerState) (played : Played) → LinePlayed tells counts old played.line played.said played.blocks played.steps played.left → old.own ≡ own_client old.machine
+  pub own_then : (counts : List ℕ) (old : PlayerState) (played : Played) → LinePlayed tells counts old played → old.own ≡ own_client old.machine
       → played.left.own ≡ own_client played.left.machine
   own_then counts old played line own =
       (line_own tells counts old played.line played.said played.blocks played.steps played.left line.plays).0 ∙ own
       ∙ sym (own_client-same old.machine played.left.machine (line_divides tells counts old played.line played.said played.blocks played.steps played.left line.plays))
 
-  other_then : (counts : List ℕ) (old : PlayerState) (played : Played) → LinePlayed tells counts old played.line played.said played.blocks played.steps played.left → IsOwnLine played.line → GivenNoOther old
+  other_then : (counts : List ℕ) (old : PlayerState) (played : Played) → LinePlayed tells counts old played → IsOwnLine played.line → GivenNoOther old
       → GivenNoOther played.left
   other_then counts old played line is none = no_other tells counts old played.line played.said played.blocks played.steps played.left line.plays is none
 
 module _ (tells : Type 0) (programs : OwnProgramsRun tells) (told : tells) where
   -- behind a line, and at whatever power lost in it shows
   keeps_line : (counts : List ℕ) (old : PlayerState) (line : Line) (said : List Reply) (blocks : List (List ℕ)) (steps : List Step) (new : PlayerState) (id : ℕ) (bytes : List ℕ) → IsMachine old.machine
-      → old.own ≡ own_client old.machine → GivenNoOther old → IsOwnLine line → LinePlayed tells counts old line said blocks steps new → Spares id line → SpareTurns id old.bridge steps
+      → old.own ≡ own_client old.machine → GivenNoOther old → IsOwnLine line → LinePlayed tells counts old (played_as line said blocks steps new) → Spares id line → SpareTurns id old.bridge steps
       → IsStoredAs id bytes (records_of old.machine)
       → IsStoredAs id bytes (records_of new.machine) × ((s : ℕ) (shown : Records) → ShowsLine s old line steps shown → IsStoredAs id bytes shown)
   keeps_line counts old line said blocks [] new id bytes machine own none is played spares spared there =
@@ -148,7 +148,7 @@ module _ (tells : Type 0) (programs : OwnProgramsRun tells) (told : tells) where
 
   -- the blocks that the turns of one line stored
   blocks_of_line : (counts : List ℕ) (old : PlayerState) (line : Played) (s : ℕ) (shown : Records) (spared : ℕ → Type 0) → IsMachine old.machine → old.own ≡ own_client old.machine
-      → LinePlayed tells counts old line.line line.said line.blocks line.steps line.left
+      → LinePlayed tells counts old line
       → (changes_of old.machine ≤ s → ShowsLine s old line.line line.steps shown ⊎ ((id : ℕ) (bytes : List ℕ) → spared id → IsStoredAs id bytes (records_of line.left.machine) → IsStoredAs id bytes shown))
       → (steps : List Step) → line.steps ≡ steps → KeepsBlocks spared s old.bridge steps shown
   blocks_of_line counts old line s shown spared machine own played either [] is = tt

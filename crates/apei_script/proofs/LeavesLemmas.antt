@@ -28,14 +28,14 @@ use Rattle.erst_shadow.specs.ShadowCommands.{pieces_in, ShadowWriteAnswered, IsN
 use Rattle.erst_shadow.proofs.CrashLemmas.{change_crash, read_crash, dummy_store}
 use Rattle.script_text.specs.ScriptGrammar.{Line, blank, write, read, clear, count, next, dummy, own_table, shadow_table, reset, power}
 use Rattle.apei_script.specs.Words.{Reply}
-use Rattle.apei_script.specs.Players.{PlayerState, budget_of, client_of}
+use Rattle.apei_script.specs.Players.{PlayerState, budget_of, client_of, asker_of}
 use Rattle.apei_script.specs.Asked.{Asked, WritesRecord, ReadsRecord, ClearsRecord, CountsRecords, FindsNext, WritesDummy, RunsAction}
 use Rattle.apei_script.specs.Happened.{Turned, NoTurn, OneMore, Happened, Once, Turn, IsListed}
 use Rattle.apei_script.specs.Mapped.{Mapped, IsWrite, IsRead, IsClear, IsCount, IsNext, IsDummy, after_write, after_line, LineLeaves}
 use Rattle.apei_script.specs.ShadowMapped.{ShadowMapped, ShadowWrite, ShadowRead, ShadowClear, ShadowCount, ShadowNext, ShadowPlayed}
 use Rattle.apei_script.specs.Bridged.{ByBridge, Enters, StaysAs, BridgesTurns}
 use Rattle.apei_script.proofs.OneEvent.{IsQuiet, once}
-use Rattle.apei_script.specs.Plays.{Plays, Blank, ByClient, GivenTable, OwnTable, GivenShadow, OnMachine, ByTheBridge, OnlyTells, Reset, Power, names_command, IsOwnLine}
+use Rattle.apei_script.specs.Plays.{Plays, Blank, ByClient, GivenTable, OwnTable, GivenShadow, OnMachine, ByTheBridge, OnlyTells, Reset, Power, names_command, IsOwnLine, played_as}
 
 -- the flash tells what it told
 stays : (range : ℕ) (old : MachineState) (line : Line) (new : MachineState) → told_of new ≡ told_of old → LineLeaves range old line new
@@ -202,7 +202,7 @@ happened_told tells old line said blocks new happened = elim happened as (λ lin
 ]
 
 -- whatever a line without an action asks is a command on records
-asks_command : (tells : Type 0) (client : ClientState) (steps : ℕ) (old : MachineState) (line : Line) (words : List ℕ) (new : MachineState) → Asked tells client steps old line words new →
+asks_command : (tells : Type 0) (client : ClientState) (steps : ℕ) (old : MachineState) (line : Line) (words : List ℕ) (new : MachineState) → Asked tells (asker_of client steps) old line words new →
     IsOwnLine line → names_command line ≡ true
 asks_command tells client steps old line words new asked = elim asked as (λ line words new asked. IsOwnLine line → names_command line ≡ true) [
   | WritesRecord hex bytes result left new decoded writes ↦ λ own. refl
@@ -226,10 +226,10 @@ bridge_told tells old line said blocks steps bridge_now machine by = elim by as 
 
 -- every line; what a command on records leaves is given
 pub line_leaves : (tells : Type 0) → tells → (range : ℕ) (counts : List ℕ) (old : PlayerState) (line : Line) (said : List Reply) (blocks : List (List ℕ)) (steps : List Step) (new : PlayerState)
-    → Plays tells counts old line said blocks steps new → steps ≡ [] → (names_command line ≡ true → LineLeaves range old.machine line new.machine) → IsOwnLine line
+    → Plays tells counts old (played_as line said blocks steps new) → steps ≡ [] → (names_command line ≡ true → LineLeaves range old.machine line new.machine) → IsOwnLine line
     → LineLeaves range old.machine line new.machine
 line_leaves tells told range counts old line said blocks steps new plays =
-    elim plays as (λ line said blocks steps new plays. steps ≡ [] → (names_command line ≡ true → LineLeaves range old.machine line new.machine) → IsOwnLine line → LineLeaves range old.machine line new.machine) [
+    elim plays as (λ one plays. one.steps ≡ [] → (names_command one.line ≡ true → LineLeaves range old.machine one.line one.left.machine) → IsOwnLine one.line → LineLeaves range old.machine one.line one.left.machine) [
       | Blank ↦ λ unmade maps own. stays range old.machine blank old.machine refl
       | ByClient line words machine commanded ↦ λ unmade maps own. maps (asks_command tells (client_of old) (budget_of old) old.machine line words machine commanded.asked own)
       | GivenTable hex bytes words machine other decoded gives ↦ λ unmade maps own. absurd own

@@ -57,3 +57,12 @@ fits_out len bytes after room same is =
     let most = is.most in
     let size : length (take len after) ≡ len = length-take-le len after (omega arith) in
     record { least = omega arith; most = omega arith }
+
+-- a read answers no more bytes than its buffer shows
+pub read_within : {W : Type 0} (allows : W → Call → W → Type 0) (client : ClientState) (id : ℕ) (out : List ℕ) (steps : ℕ) (old : W) (result : Result ℕ ClientError) (after : List ℕ) (left : ℕ) (last : W)
+    → Reads allows client id out steps old result after left last → length after ≡ length out → IfOk result (λ size. size ≤ length after)
+read_within allows client id out steps old result after left last reads same = of result (read_length allows client id out steps old result after left last reads)
+  where
+    of : (result : Result ℕ ClientError) → IfOk result (λ size. IsRecordLength size (length out)) → IfOk result (λ size. size ≤ length after)
+    of (Ok size) is = within_out size out after same is
+    of (Err error) is = tt

@@ -23,14 +23,14 @@ use Rattle.erst_bridge.specs.Made.{sides_in}
 use Rattle.script_text.specs.ScriptGrammar.{Line, blank, write, read, clear, count, next, dummy, action, table, own_table, shadow_table, turns, bert, reset, power, bridge}
 use Rattle.erst_shadow.specs.ShadowTables.{shadow_count}
 use Rattle.erst_shadow.specs.ShadowCommands.{shadow_client}
-use Rattle.apei_script.specs.Players.{PlayerState, client_of, budget_of, with_machine}
+use Rattle.apei_script.specs.Players.{PlayerState, client_of, budget_of, with_machine, asker_in}
 use Rattle.apei_script.specs.Words.{Reply, said_at, refused, words_of_write, words_of_read, words_of_clear, words_of_count, words_of_next, words_of_dummy, words_of_action, words_of_table, words_of_no_table, words_of_no_client, words_of_turns, words_of_block, words_of_bert, words_of_reset, words_of_power}
 use Rattle.apei_script.specs.Asked.{READ_BUFFER, Asked, WritesRecord, ReadsRecord, ClearsRecord, CountsRecords, FindsNext, WritesDummy, RunsAction}
 use Rattle.apei_script.specs.Tables.{ATTACH_STEPS, BeginsWith, GivesTable, IsNoTable, IsNotAttached, IsAttached, GivesShadow}
 use Rattle.apei_script.specs.Happened.{AsksFor, Happened, Once, Turn, IsListed}
 use Rattle.script_text.specs.Turns.{side_of}
 use Rattle.apei_script.specs.Bridged.{bridge_refusal, words_of_bridge, replies_of, blocks_in, NeedsNoBridge, ByBridge, Enters, StaysAs, BridgesTurns}
-use Rattle.apei_script.specs.Plays.{words_told, Plays, Blank, ByClient, GivenTable, OwnTable, GivenShadow, OnMachine, ByTheBridge, OnlyTells, Reset, Power, restarted, changes_in, step_of}
+use Rattle.apei_script.specs.Plays.{words_told, Plays, Blank, ByClient, GivenTable, OwnTable, GivenShadow, OnMachine, ByTheBridge, OnlyTells, Reset, Power, restarted, changes_in, step_of, played_as}
 use Rattle.apei_script.proofs.TurnsAlike.{TurnsBy, turns_by}
 use Rattle.apei_script.proofs.OneEvent.{asks_once, once}
 
@@ -156,7 +156,7 @@ module _ (tells : Type 0) where
   as_it_is : (said : List Reply) (blocks : List (List ℕ)) (new : PlayerState) → Left said blocks new said blocks new
   as_it_is said blocks new = record { said_is = refl; blocks_are = refl; new_is = refl }
 
-  by_its_client : (counts : List ℕ) (old : PlayerState) (line : Line) (words : List ℕ) (machine : MachineState) → Asked tells (client_of old) (budget_of old) old.machine line words machine
+  by_its_client : (counts : List ℕ) (old : PlayerState) (line : Line) (words : List ℕ) (machine : MachineState) → Asked tells (asker_in old) old.machine line words machine
       → PlaysBy counts old line (said_at (changes_in machine) (words ∷ [])) [] (with_machine machine old)
   by_its_client counts old line words machine asked = elim asked as (λ line words machine asked. PlaysBy counts old line (said_at (changes_in machine) (words ∷ [])) [] (with_machine machine old)) [
     | WritesRecord hex bytes result left new decoded writes ↦ (words_of_write bytes result, new, (bytes, result, left, decoded, refl, writes), as_it_is _ _ _)
@@ -198,8 +198,8 @@ module _ (tells : Type 0) where
         inr (record { steps = steps; bridge_now = bridge_now; machine = machine; on = on; are_turns = are; sides = sides; left = as_it_is _ _ _ })
   ]
 
-  pub plays_by : (counts : List ℕ) (old : PlayerState) (line : Line) (said : List Reply) (blocks : List (List ℕ)) (steps : List Step) (new : PlayerState) → Plays tells counts old line said blocks steps new → PlaysBy counts old line said blocks new
-  plays_by counts old line said blocks steps new plays = elim plays as (λ line said blocks steps new plays. PlaysBy counts old line said blocks new) [
+  pub plays_by : (counts : List ℕ) (old : PlayerState) (line : Line) (said : List Reply) (blocks : List (List ℕ)) (steps : List Step) (new : PlayerState) → Plays tells counts old (played_as line said blocks steps new) → PlaysBy counts old line said blocks new
+  plays_by counts old line said blocks steps new plays = elim plays as (λ one plays. PlaysBy counts old one.line one.said one.blocks one.left) [
     | Blank ↦ as_it_is _ _ _
     | ByClient line words machine commanded ↦ by_its_client counts old line words machine commanded.asked
     | GivenTable hex bytes words machine other decoded gives ↦ (bytes, words, machine, other, decoded, given_by old.machine old.other bytes words machine other gives, as_it_is _ _ _)

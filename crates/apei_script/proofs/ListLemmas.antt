@@ -8,6 +8,7 @@ use Rattle.ghes_block.specs.Region.{IsOneBlock, IsLaidOut, FindsNext, next_from,
 use Rattle.ghes_block.proofs.RegionLemmas.{finds_next, laid_is_list, starts}
 use Rattle.erst_machine.specs.MachineState.{MachineState, IsMachine}
 use Rattle.script_text.specs.ScriptGrammar.{bert}
+use Rattle.script_lines.specs.Streams.{stream_of}
 use Rattle.apei_script.specs.Words.{Reply, at_step, said_at, words_of_block, words_of_bert, reply_at, replies_at}
 use Rattle.apei_script.specs.Happened.{IsListed}
 use Rattle.apei_script.specs.Plays.{changes_in, LeftIn, InList}
@@ -118,7 +119,7 @@ next_within told_sink machine at count next written written_now is so found =
 pub listed_cut : (tells told_sink : Type 0) (machine : MachineState) (at count next : ℕ) (written written_now written_then : List ℕ) → ListedSoFar told_sink machine at count written written_now
     → next_from machine.memory.region at ≡ Ok (Some next)
     → (told_sink → (n : ℕ) × (written_then ≡ written_now ++ take n (reply_at (changes_in machine) (words_of_block (part machine.memory.region at (next - at))))))
-    → ListsUnwritten tells told_sink machine written written_then
+    → ListsUnwritten tells (stream_of told_sink written written_then) machine
 listed_cut tells told_sink machine at count next written written_now written_then so is text =
     let region = machine.memory.region in
     let h = has_next told_sink machine at count next written written_now so is in
@@ -157,7 +158,7 @@ all_listed told_sink machine at count written written_now so none =
 -- all blocks were shown, and then their number
 pub listed_all : (tells told_sink : Type 0) (machine : MachineState) (at count : ℕ) (written written_now written_then : List ℕ) → ListedSoFar told_sink machine at count written written_now
     → ((next : ℕ) → next_from machine.memory.region at ≡ Ok (Some next) → ⊥)
-    → (told_sink → written_then ≡ written_now ++ reply_at (changes_in machine) (words_of_bert count)) → Lists tells told_sink machine written written_then
+    → (told_sink → written_then ≡ written_now ++ reply_at (changes_in machine) (words_of_bert count)) → Lists tells (stream_of told_sink written written_then) machine
 listed_all tells told_sink machine at count written written_now written_then so none text =
     let all = all_listed told_sink machine at count written written_now so none in
     let step = changes_in machine in
@@ -173,7 +174,7 @@ listed_all tells told_sink machine at count written written_now written_then so 
 -- and a part of that line
 pub listed_but : (tells told_sink : Type 0) (machine : MachineState) (at count : ℕ) (written written_now written_then : List ℕ) → ListedSoFar told_sink machine at count written written_now
     → ((next : ℕ) → next_from machine.memory.region at ≡ Ok (Some next) → ⊥)
-    → (told_sink → (n : ℕ) × (written_then ≡ written_now ++ take n (reply_at (changes_in machine) (words_of_bert count)))) → ListsUnwritten tells told_sink machine written written_then
+    → (told_sink → (n : ℕ) × (written_then ≡ written_now ++ take n (reply_at (changes_in machine) (words_of_bert count)))) → ListsUnwritten tells (stream_of told_sink written written_then) machine
 listed_but tells told_sink machine at count written written_now written_then so none text =
     let all = all_listed told_sink machine at count written written_now so none in
     let step = changes_in machine in

@@ -26,7 +26,7 @@ use Rattle.apei_script.specs.Words.{Reply}
 use Rattle.apei_script.specs.Tables.{GivesTable, IsNoTable, IsNotAttached, IsAttached}
 use Rattle.apei_script.specs.Happened.{Happened, Once, Turn as TurnLine, IsListed}
 use Rattle.apei_script.specs.Bridged.{is_on, bridge_refusal, NeedsNoBridge, ByBridge, Enters, StaysAs, BridgesTurns}
-use Rattle.apei_script.specs.Plays.{Plays, Blank, ByClient, GivenTable, OwnTable, GivenShadow, OnMachine, ByTheBridge, OnlyTells, Reset, Power}
+use Rattle.apei_script.specs.Plays.{Plays, Blank, ByClient, GivenTable, OwnTable, GivenShadow, OnMachine, ByTheBridge, OnlyTells, Reset, Power, played_as}
 use Rattle.apei_script.specs.History.{Played, heard_after, Follows}
 use Rattle.apei_script.specs.Orders.{IsInStep, AlwaysInStep}
 use Rattle.apei_script.proofs.OneEvent.{IsQuiet, once}
@@ -128,8 +128,8 @@ module _ (tells : Type 0) where
   ]
 
   pub line_order : (counts : List ℕ) (old : PlayerState) (line : Line) (said : List Reply) (blocks : List (List ℕ)) (steps : List Step) (new : PlayerState) → IsMachine old.machine
-      → Plays tells counts old line said blocks steps new → IsInStep old → KeepOrder old.bridge steps × IsInStep new
-  line_order counts old line said blocks steps new machine plays step = elim plays as (λ line said blocks steps new plays. KeepOrder old.bridge steps × IsInStep new) [
+      → Plays tells counts old (played_as line said blocks steps new) → IsInStep old → KeepOrder old.bridge steps × IsInStep new
+  line_order counts old line said blocks steps new machine plays step = elim plays as (λ one plays. KeepOrder old.bridge one.steps × IsInStep one.left) [
     | Blank ↦ (tt, step)
     | ByClient line words now commanded ↦ (tt, reached old.bridge old.machine now commanded.reaches step)
     | GivenTable hex bytes words now other decoded gives ↦ (tt, table_step old.bridge old.machine old.other bytes words now other gives step)

@@ -15,6 +15,7 @@ use Rattle.erst_commands.proofs.CauseLemmas.{count_cause, next_cause}
 use Rattle.erst_commands.proofs.CallCauses.{clear_cause, dummy_cause, client_write_cause, client_read_cause}
 use Rattle.script_text.specs.ScriptGrammar.{Line, IsValid}
 use Rattle.script_text.specs.ClientWords.{words_of_client}
+use Rattle.apei_script.specs.Players.{asker_of}
 use Rattle.apei_script.specs.Words.{refused}
 use Rattle.apei_script.specs.Asked.{Asked, WritesRecord, ReadsRecord, ClearsRecord, CountsRecords, FindsNext, WritesDummy, RunsAction}
 use Rattle.apei_script.specs.Mapped.{Mapped, IsWrite, IsRead, IsClear, IsCount, IsNext, IsDummy}
@@ -26,7 +27,7 @@ no_command e = absurd (cc e)
 
 module _ (tells : Type 0) (own : OwnProgramsRun tells) (steps : ℕ) (old : MachineState) where
   -- it is the record map's command
-  pub asked_by_map : tells → IsMachine old → (line : Line) (words : List ℕ) (new : MachineState) → Asked tells (own_client old) steps old line words new →
+  pub asked_by_map : tells → IsMachine old → (line : Line) (words : List ℕ) (new : MachineState) → Asked tells (asker_of (own_client old) steps) old line words new →
       IsValid line → names_command line ≡ true → Mapped steps old line words new
   asked_by_map told machine line words new asked = elim asked as (λ line words new asked. IsValid line → names_command line ≡ true → Mapped steps old line words new) [
     | WritesRecord hex bytes result left new decoded writes ↦ λ valid names. IsWrite hex bytes result left new decoded (written tells own told bytes steps old result left new machine writes)
@@ -40,7 +41,7 @@ module _ (tells : Type 0) (own : OwnProgramsRun tells) (steps : ℕ) (old : Mach
   ]
 
   -- and says that the flash failed only where it did
-  pub asked_cause : (line : Line) (words : List ℕ) (new : MachineState) → Asked tells (own_client old) steps old line words new → names_command line ≡ true →
+  pub asked_cause : (line : Line) (words : List ℕ) (new : MachineState) → Asked tells (asker_of (own_client old) steps) old line words new → names_command line ≡ true →
       words ≡ refused (words_of_client Hardware) → Rose old.device.store.flash.faults new.device.store.flash.faults
   asked_cause line words new asked =
       elim asked as (λ line words new asked. names_command line ≡ true → words ≡ refused (words_of_client Hardware) → Rose old.device.store.flash.faults new.device.store.flash.faults) [

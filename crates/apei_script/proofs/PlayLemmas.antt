@@ -9,19 +9,20 @@ use Rattle.erst_bridge.specs.Bridges.{BridgeState}
 use Rattle.erst_bridge.specs.Turns.{Step}
 use Rattle.script_text.specs.ScriptGrammar.{Line, blank, bert, heard}
 use Rattle.apei_notify.specs.Telling.{Hearing, counts_of}
+use Rattle.script_lines.specs.Streams.{stream_of}
 use Rattle.apei_script.specs.declared.session.Session.{Session}
 use Rattle.apei_script.specs.Players.{PlayerState, budget_of, client_of, with_machine}
 use Rattle.apei_script.specs.Words.{Reply, at_step, said_at, words_of_heard, reply_at, replies_at}
 use Rattle.apei_script.specs.Bridged.{NeedsNoBridge, TurnsShown}
-use Rattle.apei_script.specs.Plays.{Plays, Blank, OnMachine, OnlyTells, LinePlayed, PlaysLine, PlaysUnwritten, Occurred, OccurredUnwritten, LeftIn, AtLast, InList, InTurns, InBridged, names_command, step_of}
+use Rattle.apei_script.specs.Plays.{Plays, Blank, OnMachine, OnlyTells, LinePlayed, PlaysLine, PlaysUnwritten, Occurred, OccurredUnwritten, LeftIn, AtLast, InList, InTurns, InBridged, names_command, step_of, stage_in, played_as, one_reply}
 use Rattle.apei_script.specs.Sessions.{state_of, SameClients, Lists, ListsUnwritten, LineAnswered, MakesReply}
 use Rattle.apei_script.proofs.LineLemmas.{line_happened}
 use Rattle.apei_script.proofs.LeavesLemmas.{line_leaves}
 use Rattle.apei_notify.proofs.ToldLemmas.{told_none}
 
 -- a line that is no command on records
-pub quiet_with : (tells : Type 0) (counts : List ℕ) (old : PlayerState) (line : Line) (said : List Reply) (blocks : List (List ℕ)) (steps : List Step) (new : PlayerState) → names_command line ≡ false → Plays tells counts old line said blocks steps new
-    → (tells → old.own ≡ own_client old.machine → TurnsShown (budget_of old) old.bridge old.machine steps new.machine) → LinePlayed tells counts old line said blocks steps new
+pub quiet_with : (tells : Type 0) (counts : List ℕ) (old : PlayerState) (line : Line) (said : List Reply) (blocks : List (List ℕ)) (steps : List Step) (new : PlayerState) → names_command line ≡ false → Plays tells counts old (played_as line said blocks steps new)
+    → (tells → old.own ≡ own_client old.machine → TurnsShown (budget_of old) old.bridge old.machine steps new.machine) → LinePlayed tells counts old (played_as line said blocks steps new)
 quiet_with tells counts old line said blocks steps new none plays turned = record {
   plays = plays;
   happened = line_happened tells counts old line said blocks steps new plays;
@@ -37,8 +38,8 @@ quiet_with tells counts old line said blocks steps new none plays turned = recor
 pub shows_none : {budget : ℕ} (state : BridgeState) (old new : MachineState) → TurnsShown budget state old [] new
 shows_none state old new = record { each = λ some. absurd (some refl); first = λ some. absurd (some refl); stored = λ s image from crash. tt; mapped = tt; ends = tt }
 
-quiet : (tells : Type 0) (counts : List ℕ) (old : PlayerState) (line : Line) (said : List Reply) (blocks : List (List ℕ)) (new : PlayerState) → names_command line ≡ false → Plays tells counts old line said blocks [] new
-    → LinePlayed tells counts old line said blocks [] new
+quiet : (tells : Type 0) (counts : List ℕ) (old : PlayerState) (line : Line) (said : List Reply) (blocks : List (List ℕ)) (new : PlayerState) → names_command line ≡ false → Plays tells counts old (played_as line said blocks [] new)
+    → LinePlayed tells counts old (played_as line said blocks [] new)
 quiet tells counts old line said blocks new none plays = quiet_with tells counts old line said blocks [] new none plays (λ told own. shows_none old.bridge old.machine new.machine)
 
 same_state : (machine : MachineState) (own own_now : ClientState) (other other_now : Option ClientState) (steps steps_now : Option ℕ) (state : BridgeState) → own_now ≡ own → other_now ≡ other → steps_now ≡ steps
@@ -62,7 +63,7 @@ same_machine old new same = ap (λ (s : PlayerState). s.machine) same
 
 -- a line that was answered, with all that is said of it
 pub line_answered : (tells : Type 0) (old : PlayerState) (line : Line) (new : PlayerState) (made reply : List ℕ) (step : ℕ)
-    → ((words counts : List ℕ) → Plays tells counts old line (said_at (step_of new) (words ∷ [])) [] [] new → LinePlayed tells counts old line (said_at (step_of new) (words ∷ [])) [] [] new)
+    → ((words counts : List ℕ) → Plays tells counts old (one_reply line words new) → LinePlayed tells counts old (one_reply line words new))
     → MakesReply tells old line new made → step ≡ step_of new → reply ≡ reply_at step made → LineAnswered tells old line new reply
 line_answered tells old line new made reply step whole makes at text = record {
   words = makes.words;
@@ -87,7 +88,7 @@ left_alone state line made said before last left = elim left as (λ line made sa
 ]
 
 module _ {L : Type 0} (hearing : L → Hearing) (tells told_sink : Type 0) where
-  pub blank_played : (old : PlayerState) (members : List L) (written : List ℕ) → PlaysLine hearing tells told_sink old old members members blank written written
+  pub blank_played : (old : PlayerState) (members : List L) (written : List ℕ) → PlaysLine hearing tells (stream_of told_sink written written) (stage_in old members) blank (stage_in old members)
   blank_played old members written = record {
     said = [];
     blocks = [];
@@ -98,21 +99,21 @@ module _ {L : Type 0} (hearing : L → Hearing) (tells told_sink : Type 0) where
   }
 
   pub occurred_played : (old new : PlayerState) (members members_now : List L) (line : Line) (written written_now : List ℕ) → names_command line ≡ false → NeedsNoBridge old.bridge line → new ≡ with_machine new.machine old
-      → Occurred hearing tells told_sink old.machine new.machine members members_now line written written_now
-      → PlaysLine hearing tells told_sink old new members members_now line written written_now
+      → Occurred hearing tells (stream_of told_sink written written_now) (stage_in old.machine members) line (stage_in new.machine members_now)
+      → PlaysLine hearing tells (stream_of told_sink written written_now) (stage_in old members) line (stage_in new members_now)
   occurred_played old new members members_now line written written_now none alone same h = record {
     said = said_at (step_of new) h.words;
     blocks = h.blocks;
     steps = [];
     played = quiet tells (counts_of hearing members) old line (said_at (step_of new) h.words) h.blocks new none
-        (subst (λ (s : PlayerState). Plays tells (counts_of hearing members) old line (said_at (step_of new) h.words) h.blocks [] s) (sym same) (OnMachine line h.words h.blocks new.machine alone h.happened));
+        (subst (λ (s : PlayerState). Plays tells (counts_of hearing members) old (played_as line (said_at (step_of new) h.words) h.blocks [] s)) (sym same) (OnMachine line h.words h.blocks new.machine alone h.happened));
     told = h.told;
     text = h.text;
   }
 
   pub occurred_unwritten : (old new : PlayerState) (members members_now : List L) (line : Line) (written written_now : List ℕ) → names_command line ≡ false → NeedsNoBridge old.bridge line → new ≡ with_machine new.machine old
-      → OccurredUnwritten hearing tells told_sink old.machine new.machine members members_now line written written_now
-      → PlaysUnwritten hearing tells told_sink old new members members_now line written written_now
+      → OccurredUnwritten hearing tells (stream_of told_sink written written_now) (stage_in old.machine members) line (stage_in new.machine members_now)
+      → PlaysUnwritten hearing tells (stream_of told_sink written written_now) (stage_in old members) line (stage_in new members_now)
   occurred_unwritten old new members members_now line written written_now none alone same h = record {
     made = h.made;
     said = said_at (step_of new) h.words;
@@ -122,16 +123,16 @@ module _ {L : Type 0} (hearing : L → Hearing) (tells told_sink : Type 0) where
     blocks = h.blocks;
     steps = [];
     played = quiet tells (counts_of hearing members) old h.made (said_at (step_of new) h.words) h.blocks new (left_quiet line h.made (said_at (step_of new) h.words) h.before h.last h.left none)
-        (subst (λ (s : PlayerState). Plays tells (counts_of hearing members) old h.made (said_at (step_of new) h.words) h.blocks [] s) (sym same)
+        (subst (λ (s : PlayerState). Plays tells (counts_of hearing members) old (played_as h.made (said_at (step_of new) h.words) h.blocks [] s)) (sym same)
         (OnMachine h.made h.words h.blocks new.machine (left_alone old.bridge line h.made (said_at (step_of new) h.words) h.before h.last h.left alone) h.happened));
     told = h.told;
     text = h.text;
   }
 
-  pub listed_played : (old new : PlayerState) (members : List L) (written written_now : List ℕ) → new ≡ old → Lists tells told_sink old.machine written written_now
-      → PlaysLine hearing tells told_sink old new members members bert written written_now
+  pub listed_played : (old new : PlayerState) (members : List L) (written written_now : List ℕ) → new ≡ old → Lists tells (stream_of told_sink written written_now) old.machine
+      → PlaysLine hearing tells (stream_of told_sink written written_now) (stage_in old members) bert (stage_in new members)
   listed_played old new members written written_now same h =
-      subst (λ (s : PlayerState). PlaysLine hearing tells told_sink old s members members bert written written_now) (sym same) (record {
+      subst (λ (s : PlayerState). PlaysLine hearing tells (stream_of told_sink written written_now) (stage_in old members) bert (stage_in s members)) (sym same) (record {
         said = said_at (step_of old) h.words;
         blocks = [];
         steps = [];
@@ -140,10 +141,10 @@ module _ {L : Type 0} (hearing : L → Hearing) (tells told_sink : Type 0) where
         text = h.text;
       })
 
-  pub listed_unwritten : (old new : PlayerState) (members : List L) (written written_now : List ℕ) → new ≡ old → ListsUnwritten tells told_sink old.machine written written_now
-      → PlaysUnwritten hearing tells told_sink old new members members bert written written_now
+  pub listed_unwritten : (old new : PlayerState) (members : List L) (written written_now : List ℕ) → new ≡ old → ListsUnwritten tells (stream_of told_sink written written_now) old.machine
+      → PlaysUnwritten hearing tells (stream_of told_sink written written_now) (stage_in old members) bert (stage_in new members)
   listed_unwritten old new members written written_now same h =
-      subst (λ (s : PlayerState). PlaysUnwritten hearing tells told_sink old s members members bert written written_now) (sym same) (record {
+      subst (λ (s : PlayerState). PlaysUnwritten hearing tells (stream_of told_sink written written_now) (stage_in old members) bert (stage_in s members)) (sym same) (record {
         made = bert;
         said = said_at (step_of old) h.words;
         before = h.before;
@@ -160,9 +161,9 @@ module _ {L : Type 0} (hearing : L → Hearing) (tells told_sink : Type 0) where
   one_text : (step : ℕ) (words written : List ℕ) → written ++ reply_at step words ≡ written ++ replies_at step (words ∷ [])
   one_text step words written = ap (λ (xs : List ℕ). written ++ xs) (sym (append-nil (reply_at step words)))
 
-  pub one_played : (old new : PlayerState) (members : List L) (line : Line) (words written written_now : List ℕ) → LinePlayed tells (counts_of hearing members) old line (said_at (step_of new) (words ∷ [])) [] [] new
+  pub one_played : (old new : PlayerState) (members : List L) (line : Line) (words written written_now : List ℕ) → LinePlayed tells (counts_of hearing members) old (one_reply line words new)
       → (told_sink → written_now ≡ written ++ reply_at (step_of new) words)
-      → PlaysLine hearing tells told_sink old new members members line written written_now
+      → PlaysLine hearing tells (stream_of told_sink written written_now) (stage_in old members) line (stage_in new members)
   one_played old new members line words written written_now played text = record {
     said = said_at (step_of new) (words ∷ []);
     blocks = [];
@@ -172,9 +173,9 @@ module _ {L : Type 0} (hearing : L → Hearing) (tells told_sink : Type 0) where
     text = λ t. text t ∙ one_text (step_of new) words written;
   }
 
-  pub one_unwritten : (old new : PlayerState) (members : List L) (line : Line) (words written written_now : List ℕ) → LinePlayed tells (counts_of hearing members) old line (said_at (step_of new) (words ∷ [])) [] [] new
+  pub one_unwritten : (old new : PlayerState) (members : List L) (line : Line) (words written written_now : List ℕ) → LinePlayed tells (counts_of hearing members) old (one_reply line words new)
       → (told_sink → (n : ℕ) × (written_now ≡ written ++ take n (reply_at (step_of new) words)))
-      → PlaysUnwritten hearing tells told_sink old new members members line written written_now
+      → PlaysUnwritten hearing tells (stream_of told_sink written written_now) (stage_in old members) line (stage_in new members)
   one_unwritten old new members line words written written_now played text = record {
     made = line;
     said = said_at (step_of new) (words ∷ []);
@@ -190,34 +191,34 @@ module _ {L : Type 0} (hearing : L → Hearing) (tells told_sink : Type 0) where
 
   -- where the listeners are as they were
   pub answer_played : (old new : PlayerState) (members members_now : List L) (line : Line) (words written written_now : List ℕ) → members_now ≡ members
-      → LinePlayed tells (counts_of hearing members) old line (said_at (step_of new) (words ∷ [])) [] [] new → (told_sink → written_now ≡ written ++ reply_at (step_of new) words)
-      → PlaysLine hearing tells told_sink old new members members_now line written written_now
+      → LinePlayed tells (counts_of hearing members) old (one_reply line words new) → (told_sink → written_now ≡ written ++ reply_at (step_of new) words)
+      → PlaysLine hearing tells (stream_of told_sink written written_now) (stage_in old members) line (stage_in new members_now)
   answer_played old new members members_now line words written written_now same played text =
-      subst (λ (now : List L). PlaysLine hearing tells told_sink old new members now line written written_now) (sym same)
+      subst (λ (now : List L). PlaysLine hearing tells (stream_of told_sink written written_now) (stage_in old members) line (stage_in new now)) (sym same)
       (one_played old new members line words written written_now played text)
 
   pub answer_unwritten : (old new : PlayerState) (members members_now : List L) (line : Line) (words written written_now : List ℕ) → members_now ≡ members
-      → LinePlayed tells (counts_of hearing members) old line (said_at (step_of new) (words ∷ [])) [] [] new
+      → LinePlayed tells (counts_of hearing members) old (one_reply line words new)
       → (told_sink → (n : ℕ) × (written_now ≡ written ++ take n (reply_at (step_of new) words)))
-      → PlaysUnwritten hearing tells told_sink old new members members_now line written written_now
+      → PlaysUnwritten hearing tells (stream_of told_sink written written_now) (stage_in old members) line (stage_in new members_now)
   answer_unwritten old new members members_now line words written written_now same played text =
-      subst (λ (now : List L). PlaysUnwritten hearing tells told_sink old new members now line written written_now) (sym same)
+      subst (λ (now : List L). PlaysUnwritten hearing tells (stream_of told_sink written written_now) (stage_in old members) line (stage_in new now)) (sym same)
       (one_unwritten old new members line words written written_now played text)
 
-  heard_line : (old new : PlayerState) (members : List L) → new ≡ old → LinePlayed tells (counts_of hearing members) old heard (said_at (step_of new) (words_of_heard (counts_of hearing members) ∷ [])) [] [] new
+  heard_line : (old new : PlayerState) (members : List L) → new ≡ old → LinePlayed tells (counts_of hearing members) old (one_reply heard (words_of_heard (counts_of hearing members)) new)
   heard_line old new members same = quiet tells (counts_of hearing members) old heard (said_at (step_of new) (words_of_heard (counts_of hearing members) ∷ [])) [] new refl
-      (subst (λ (s : PlayerState). Plays tells (counts_of hearing members) old heard (said_at (step_of s) (words_of_heard (counts_of hearing members) ∷ [])) [] [] s) (sym same) (OnlyTells heard (words_of_heard (counts_of hearing members)) refl))
+      (subst (λ (s : PlayerState). Plays tells (counts_of hearing members) old (one_reply heard (words_of_heard (counts_of hearing members)) s)) (sym same) (OnlyTells heard (words_of_heard (counts_of hearing members)) refl))
 
   pub heard_played : (old new : PlayerState) (members : List L) (written written_now : List ℕ) → new ≡ old
       → (told_sink → written_now ≡ written ++ reply_at (step_of old) (words_of_heard (counts_of hearing members)))
-      → PlaysLine hearing tells told_sink old new members members heard written written_now
+      → PlaysLine hearing tells (stream_of told_sink written written_now) (stage_in old members) heard (stage_in new members)
   heard_played old new members written written_now same text =
       one_played old new members heard (words_of_heard (counts_of hearing members)) written written_now (heard_line old new members same)
       (λ t. text t ∙ ap (λ (s : PlayerState). written ++ reply_at (step_of s) (words_of_heard (counts_of hearing members))) (sym same))
 
   pub heard_unwritten : (old new : PlayerState) (members : List L) (written written_now : List ℕ) → new ≡ old
       → (told_sink → (n : ℕ) × (written_now ≡ written ++ take n (reply_at (step_of old) (words_of_heard (counts_of hearing members)))))
-      → PlaysUnwritten hearing tells told_sink old new members members heard written written_now
+      → PlaysUnwritten hearing tells (stream_of told_sink written written_now) (stage_in old members) heard (stage_in new members)
   heard_unwritten old new members written written_now same text =
       one_unwritten old new members heard (words_of_heard (counts_of hearing members)) written written_now (heard_line old new members same)
       (λ t. let some = text t in (some.0, some.1 ∙ ap (λ (s : PlayerState). written ++ take some.0 (reply_at (step_of s) (words_of_heard (counts_of hearing members)))) (sym same)))

@@ -12,13 +12,13 @@ use Rattle.erst_bridge.specs.Bridges.{BridgeState}
 use Rattle.erst_bridge.specs.Turns.{Step}
 use Rattle.script_text.specs.ScriptGrammar.{Line, IsValid, write, read, clear, count, next as next_line, dummy}
 use Rattle.base_model.specs.Faults.{Rose}
-use Rattle.apei_script.specs.Players.{PlayerState, client_of, budget_of, UsesOwn, UsesShadow, UsesEither}
+use Rattle.apei_script.specs.Players.{PlayerState, client_of, budget_of, UsesOwn, UsesShadow, UsesEither, asker_of, asker_in}
 use Rattle.apei_script.specs.Mapped.{LineLeaves}
 use Rattle.apei_script.specs.Words.{Reply, said_at, words_in}
 use Rattle.apei_script.specs.Asked.{Asked}
 use Rattle.apei_script.specs.Happened.{Happened, Once, Turn, IsListed}
 use Rattle.apei_script.specs.Bridged.{ByBridge, Enters, StaysAs, BridgesTurns}
-use Rattle.apei_script.specs.Plays.{Plays, Blank, ByClient, GivenTable, OwnTable, GivenShadow, OnMachine, ByTheBridge, OnlyTells, Reset, Power, words_told, names_command, SaysHardware, LinePlayed, step_of}
+use Rattle.apei_script.specs.Plays.{Plays, Blank, ByClient, GivenTable, OwnTable, GivenShadow, OnMachine, ByTheBridge, OnlyTells, Reset, Power, words_told, names_command, SaysHardware, LinePlayed, step_of, played_as}
 use Rattle.apei_script.proofs.OneEvent.{once}
 use Rattle.apei_script.proofs.LineLemmas.{line_happened}
 use Rattle.apei_script.proofs.OwnClientLemmas.{no_command, asked_by_map, asked_cause}
@@ -36,7 +36,7 @@ first_of (words ∷ rest) = words
 record AsksClient (tells : Type 0) (old : PlayerState) (line : Line) (said : List Reply) (new : PlayerState) : Type 0 where
   words : List ℕ
   said_is : said ≡ said_at (step_of new) (words ∷ [])
-  asked : Asked tells (client_of old) (budget_of old) old.machine line words new.machine
+  asked : Asked tells (asker_in old) old.machine line words new.machine
 
 -- a line that only tells is none
 no_telling : {Goal : Type 0} (counts : List ℕ) (old : PlayerState) (line : Line) (words : List ℕ) → words_told counts old line ≡ Some words → names_command line ≡ true → Goal
@@ -64,9 +64,9 @@ module _ (tells : Type 0) where
     | BridgesTurns letters steps next machine on are sides counted ↦ λ names. no_command names
   ]
 
-  asks : (counts : List ℕ) (old : PlayerState) (line : Line) (said : List Reply) (blocks : List (List ℕ)) (steps : List Step) (new : PlayerState) → Plays tells counts old line said blocks steps new → names_command line ≡ true →
+  asks : (counts : List ℕ) (old : PlayerState) (line : Line) (said : List Reply) (blocks : List (List ℕ)) (steps : List Step) (new : PlayerState) → Plays tells counts old (played_as line said blocks steps new) → names_command line ≡ true →
       AsksClient tells old line said new
-  asks counts old line said blocks steps new plays = elim plays as (λ line said blocks steps new plays. names_command line ≡ true → AsksClient tells old line said new) [
+  asks counts old line said blocks steps new plays = elim plays as (λ one plays. names_command one.line ≡ true → AsksClient tells old one.line one.said one.left) [
     | Blank ↦ λ names. no_command names
     | ByClient line words machine commanded ↦ λ names. record { words = words; said_is = refl; asked = commanded.asked }
     | GivenTable hex bytes words machine other decoded gives ↦ λ names. no_command names
@@ -80,12 +80,12 @@ module _ (tells : Type 0) where
   ]
 
   by_own : (old : PlayerState) (line : Line) (said : List Reply) (new : PlayerState) → UsesOwn old → (asks : AsksClient tells old line said new) →
-      Asked tells (own_client old.machine) (budget_of old) old.machine line asks.words new.machine
-  by_own old line said new uses asks = subst (λ (client : ClientState). Asked tells client (budget_of old) old.machine line asks.words new.machine) uses asks.asked
+      Asked tells (asker_of (own_client old.machine) (budget_of old)) old.machine line asks.words new.machine
+  by_own old line said new uses asks = subst (λ (client : ClientState). Asked tells (asker_of client (budget_of old)) old.machine line asks.words new.machine) uses asks.asked
 
   by_its_shadow : (old : PlayerState) (line : Line) (said : List Reply) (new : PlayerState) → UsesShadow old → (asks : AsksClient tells old line said new) →
-      Asked tells (shadow_client old.machine) (budget_of old) old.machine line asks.words new.machine
-  by_its_shadow old line said new uses asks = subst (λ (client : ClientState). Asked tells client (budget_of old) old.machine line asks.words new.machine) uses asks.asked
+      Asked tells (asker_of (shadow_client old.machine) (budget_of old)) old.machine line asks.words new.machine
+  by_its_shadow old line said new uses asks = subst (λ (client : ClientState). Asked tells (asker_of client (budget_of old)) old.machine line asks.words new.machine) uses asks.asked
 
   module _ (own : OwnProgramsRun tells) (old : PlayerState) (line : Line) (said : List Reply) (new : PlayerState) (machine : IsMachine old.machine) where
     has_cause : UsesEither old → (asks : AsksClient tells old line said new) → names_command line ≡ true → SaysHardware said
@@ -114,7 +114,7 @@ module _ (tells : Type 0) where
         (shadow_by_map tells own (budget_of old) old.machine machine told line asks.words new.machine (by_its_shadow old line said new uses asks) valid names))
 
   pub line_played : OwnProgramsRun tells → (counts : List ℕ) (old : PlayerState) (line : Line) (said : List Reply) (blocks : List (List ℕ)) (steps : List Step) (new : PlayerState) → IsMachine old.machine → IsValid line →
-      Plays tells counts old line said blocks steps new → LinePlayed tells counts old line said blocks steps new
+      Plays tells counts old (played_as line said blocks steps new) → LinePlayed tells counts old (played_as line said blocks steps new)
   line_played own counts old line said blocks steps new machine valid plays =
       let asks_own = asks counts old line said blocks steps new plays in
       record {

@@ -17,6 +17,7 @@ use Rattle.erst_shadow.proofs.CauseLemmas.{shadow_clear_cause, shadow_dummy_caus
 use Rattle.erst_shadow.proofs.EnoughLemmas.{client_write_through, clear_through, dummy_through, client_read_through}
 use Rattle.script_text.specs.ScriptGrammar.{Line, IsValid}
 use Rattle.script_text.specs.ClientWords.{words_of_client}
+use Rattle.apei_script.specs.Players.{asker_of}
 use Rattle.apei_script.specs.Words.{refused}
 use Rattle.apei_script.specs.Asked.{Asked, WritesRecord, ReadsRecord, ClearsRecord, CountsRecords, FindsNext, WritesDummy, RunsAction}
 use Rattle.apei_script.specs.ShadowMapped.{ShadowMapped, ShadowWrite, ShadowRead, ShadowClear, ShadowCount, ShadowNext, ShadowPlayed}
@@ -27,7 +28,7 @@ use Rattle.apei_script.proofs.WordLemmas.{failed, of_write, of_read, of_clear, o
 
 module _ (tells : Type 0) (own : OwnProgramsRun tells) (steps : ℕ) (old : MachineState) (machine : IsMachine old) where
   -- it is the record map's command
-  pub shadow_by_map : tells → (line : Line) (words : List ℕ) (new : MachineState) → Asked tells (shadow_client old) steps old line words new → IsValid line → names_command line ≡ true
+  pub shadow_by_map : tells → (line : Line) (words : List ℕ) (new : MachineState) → Asked tells (asker_of (shadow_client old) steps) old line words new → IsValid line → names_command line ≡ true
       → ShadowMapped steps old line words new
   shadow_by_map told line words new asked = elim asked as (λ line words new asked. IsValid line → names_command line ≡ true → ShadowMapped steps old line words new) [
     | WritesRecord hex bytes result left new decoded writes ↦ λ valid names. ShadowWrite hex bytes result left new decoded (writes_as_map tells own told bytes steps old result left new machine writes)
@@ -43,7 +44,7 @@ module _ (tells : Type 0) (own : OwnProgramsRun tells) (steps : ℕ) (old : Mach
   ]
 
   -- it says that the flash failed only where it did
-  pub shadow_cause : (line : Line) (words : List ℕ) (new : MachineState) → Asked tells (shadow_client old) steps old line words new → names_command line ≡ true
+  pub shadow_cause : (line : Line) (words : List ℕ) (new : MachineState) → Asked tells (asker_of (shadow_client old) steps) old line words new → names_command line ≡ true
       → words ≡ refused (words_of_client Hardware) → Rose old.device.store.flash.faults new.device.store.flash.faults
   shadow_cause line words new asked =
       elim asked as (λ line words new asked. names_command line ≡ true → words ≡ refused (words_of_client Hardware) → Rose old.device.store.flash.faults new.device.store.flash.faults) [
@@ -65,7 +66,7 @@ module _ (tells : Type 0) (own : OwnProgramsRun tells) (steps : ℕ) (old : Mach
       ]
 
   -- and with enough steps it is neither stopped nor late
-  pub shadow_through : enough_steps (own_client old).timings ≤ steps → (line : Line) (words : List ℕ) (new : MachineState) → Asked tells (shadow_client old) steps old line words new
+  pub shadow_through : enough_steps (own_client old).timings ≤ steps → (line : Line) (words : List ℕ) (new : MachineState) → Asked tells (asker_of (shadow_client old) steps) old line words new
       → IsValid line → names_command line ≡ true → SaysNeither words
   shadow_through enough line words new asked = elim asked as (λ line words new asked. IsValid line → names_command line ≡ true → SaysNeither words) [
     | WritesRecord hex bytes result left new decoded writes ↦ λ valid names.

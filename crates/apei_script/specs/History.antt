@@ -15,15 +15,8 @@ use Rattle.apei_script.specs.Players.{PlayerState, client_of, budget_of, UsesOwn
 use Rattle.apei_script.specs.Words.{Reply, said_at, text_of_replies}
 use Rattle.apei_script.specs.Mapped.{Mapped, after_line}
 use Rattle.apei_script.specs.ShadowMapped.{ShadowMapped}
+pub use Rattle.apei_script.specs.Plays.{Played}
 use Rattle.apei_script.specs.Plays.{LinePlayed, step_of, names_command, IsOwnLine, SaysHardware, SaysStopped, SaysLate}
-
--- a line that was played: its replies, the blocks of which the listeners were told, the turns of the bridge, and the player afterwards
-pub record Played : Type 0 where
-  pub line : Line
-  pub said : List Reply
-  pub blocks : List (List ℕ)
-  pub steps : List Step
-  pub left : PlayerState
 
 -- how often a listener has heard of an error once it was told of so many more that it wants
 abbrev pub heard_of : ℕ → ℕ → ℕ
@@ -38,8 +31,7 @@ heard_after wants blocks counts = counts
 abbrev pub Follows : Type 0 → List (ℕ → Bool) → List ℕ → PlayerState → List Played → PlayerState → Type 0
 Follows tells wants counts first [] last = last ≡ first
 Follows tells wants counts first (played ∷ rest) last =
-    LinePlayed tells counts first played.line played.said played.blocks played.steps played.left
-    × Follows tells wants (heard_after wants played.blocks counts) played.left rest last
+    LinePlayed tells counts first played × Follows tells wants (heard_after wants played.blocks counts) played.left rest last
 
 -- the blocks of which the listeners were told
 abbrev pub blocks_of : List Played → List (List ℕ)

@@ -32,6 +32,18 @@ budget_by (Some steps) client = steps
 abbrev pub budget_of : PlayerState → ℕ
 budget_of state = budget_by state.steps (client_of state)
 
+-- who asks a machine for a command: a client, with so many steps
+pub record Asker : Type 0 where
+  pub client : ClientState
+  pub steps : ℕ
+
+abbrev pub asker_of : ClientState → ℕ → Asker
+asker_of client steps = record { client = client; steps = steps }
+
+-- the client in use, with the steps of a line
+abbrev pub asker_in : PlayerState → Asker
+asker_in state = asker_of (client_of state) (budget_of state)
+
 abbrev pub with_machine : MachineState → PlayerState → PlayerState
 with_machine machine state = record state { machine = machine }
 

@@ -3,6 +3,7 @@ use Rattle.std.specs.Prelude.{◌≡◌, ℕ, ◌+◌, ◌≤◌, Bool, true, fa
 use Rattle.hex.specs.Hex.{decode_of}
 use Rattle.base_model.specs.Faults.{Rose}
 use Rattle.apei_space.specs.Accesses.{Move, Trail}
+use Rattle.script_lines.specs.Streams.{Stream}
 use Rattle.script_lines.specs.declared.lengths.TheConstants.{LONGEST_LINE}
 use Rattle.apei_notify.specs.Telling.{Hearing, counts_of}
 pub use Rattle.apei_notify.specs.Telling.{Told}
@@ -26,7 +27,7 @@ use Rattle.apei_script.specs.declared.player.PlayStop.{PlayStop}
 use Rattle.apei_script.specs.declared.player.PlayStop.TheVariants.{SinkFault, FlashFault, Memory}
 use Rattle.erst_shadow.specs.ShadowTables.{shadow_count}
 use Rattle.erst_shadow.specs.ShadowCommands.{shadow_client}
-use Rattle.apei_script.specs.Players.{PlayerState, client_of, budget_of, with_machine, UsesOwn, UsesShadow, UsesEither}
+use Rattle.apei_script.specs.Players.{PlayerState, client_of, budget_of, asker_in, with_machine, UsesOwn, UsesShadow, UsesEither}
 use Rattle.apei_script.specs.Words.{Reply, at_step, said_at, words_in, text_of_reply, text_of_replies, replies_at, refused, words_of_table, words_of_turns, words_of_heard, words_of_reset, words_of_power}
 use Rattle.apei_script.specs.Asked.{Commanded}
 use Rattle.apei_script.specs.Tables.{GivesTable, GivesShadow}
@@ -49,27 +50,40 @@ abbrev pub words_told : List ℕ → PlayerState → Line → Option (List ℕ)
 words_told counts old heard = Some (words_of_heard counts)
 words_told counts old line = None
 
--- A line, its replies, the blocks of which the listeners are told, the turns of the bridge and of the firmware beside it, and the player
--- afterwards. `counts` says how often each listener has heard of an error before it
-pub data Plays (tells : Type 0) (counts : List ℕ) (old : PlayerState) : Line → List Reply → List (List ℕ) → List Step → PlayerState → Type 0 where
-  Blank : Plays tells counts old blank [] [] [] old
-  ByClient : (line : Line) (words : List ℕ) (machine : MachineState) → Commanded tells (client_of old) (budget_of old) old.machine line words machine
-      → Plays tells counts old line (said_at (changes_in machine) (words ∷ [])) [] [] (with_machine machine old)
+-- a line that was played: its replies, the blocks of which the listeners were told, the turns of the bridge and of the firmware beside it, and
+-- the player afterwards
+pub record Played : Type 0 where
+  pub line : Line
+  pub said : List Reply
+  pub blocks : List (List ℕ)
+  pub steps : List Step
+  pub left : PlayerState
+
+abbrev pub played_as : Line → List Reply → List (List ℕ) → List Step → PlayerState → Played
+played_as line said blocks steps left = record { line = line; said = said; blocks = blocks; steps = steps; left = left }
+
+-- one that has one reply, of which no listener is told and in which the bridge makes no turn
+abbrev pub one_reply : Line → List ℕ → PlayerState → Played
+one_reply line words left = played_as line (said_at (step_of left) (words ∷ [])) [] [] left
+
+-- The playing of a line by a player. `counts` says how often each listener has heard of an error before it
+pub data Plays (tells : Type 0) (counts : List ℕ) (old : PlayerState) : Played → Type 0 where
+  Blank : Plays tells counts old (played_as blank [] [] [] old)
+  ByClient : (line : Line) (words : List ℕ) (machine : MachineState) → Commanded tells (asker_in old) old.machine line words machine
+      → Plays tells counts old (one_reply line words (with_machine machine old))
   GivenTable : (hex bytes words : List ℕ) (machine : MachineState) (other : Option ClientState) → decode_of hex ≡ Ok bytes
       → GivesTable tells old.machine old.other bytes words machine other
-      → Plays tells counts old (table hex) (said_at (changes_in machine) (words ∷ [])) [] [] (record old { machine = machine; other = other })
-  OwnTable : Plays tells counts old own_table (said_at (step_of old) (words_of_table (length old.own.table.entries) ∷ [])) [] [] (record old { other = None })
+      → Plays tells counts old (one_reply (table hex) words (record old { machine = machine; other = other }))
+  OwnTable : Plays tells counts old (one_reply own_table (words_of_table (length old.own.table.entries)) (record old { other = None }))
   GivenShadow : (machine : MachineState) → GivesShadow tells old.machine machine
-      → Plays tells counts old shadow_table (said_at (changes_in machine) (words_of_table shadow_count ∷ [])) [] [] (record old { machine = machine; other = Some (shadow_client old.machine) })
+      → Plays tells counts old (one_reply shadow_table (words_of_table shadow_count) (record old { machine = machine; other = Some (shadow_client old.machine) }))
   OnMachine : (line : Line) (words blocks : List (List ℕ)) (machine : MachineState) → NeedsNoBridge old.bridge line → Happened tells old.machine line words blocks machine
-      → Plays tells counts old line (said_at (changes_in machine) words) blocks [] (with_machine machine old)
+      → Plays tells counts old (played_as line (said_at (changes_in machine) words) blocks [] (with_machine machine old))
   ByTheBridge : (line : Line) (said : List Reply) (blocks : List (List ℕ)) (steps : List Step) (next : BridgeState) (machine : MachineState) → ByBridge tells old line said blocks steps next machine
-      → Plays tells counts old line said blocks steps (record old { machine = machine; bridge = next })
-  OnlyTells : (line : Line) (words : List ℕ) → words_told counts old line ≡ Some words → Plays tells counts old line (said_at (step_of old) (words ∷ [])) [] [] old
-  Reset : (n : ℕ) (machine : MachineState) → Warms tells old.machine (Ok n) machine
-      → Plays tells counts old reset (said_at (changes_in machine) (words_of_reset n ∷ [])) [] [] (restarted machine old)
-  Power : (n : ℕ) (machine : MachineState) → Powers tells old.machine (Ok n) machine
-      → Plays tells counts old power (said_at (changes_in machine) (words_of_power n ∷ [])) [] [] (restarted machine old)
+      → Plays tells counts old (played_as line said blocks steps (record old { machine = machine; bridge = next }))
+  OnlyTells : (line : Line) (words : List ℕ) → words_told counts old line ≡ Some words → Plays tells counts old (one_reply line words old)
+  Reset : (n : ℕ) (machine : MachineState) → Warms tells old.machine (Ok n) machine → Plays tells counts old (one_reply reset (words_of_reset n) (restarted machine old))
+  Power : (n : ℕ) (machine : MachineState) → Powers tells old.machine (Ok n) machine → Plays tells counts old (one_reply power (words_of_power n) (restarted machine old))
 
 -- a restart that the flash failed
 pub data FailsRestart (tells : Type 0) (old : MachineState) : Line → MachineState → Type 0 where
@@ -143,19 +157,19 @@ SaysLate said = (waited : ℕ) × (words_in said ≡ refused (codes "late " ++ d
 
 -- One line that was played. By one of the machine's own two tables a command on records is the record map's; it says that the flash failed
 -- only where the flash's count of faults rose in this very line, and where its steps are enough it is never stopped, and never late
-pub record LinePlayed (tells : Type 0) (counts : List ℕ) (old : PlayerState) (line : Line) (said : List Reply) (blocks : List (List ℕ)) (steps : List Step) (new : PlayerState) : Type 0 where
-  pub plays : Plays tells counts old line said blocks steps new
-  pub happened : HasHappened tells old.machine new.machine
-  pub by_map : tells → UsesOwn old → names_command line ≡ true
-      → (words : List ℕ) × (said ≡ said_at (step_of new) (words ∷ [])) × Mapped (budget_of old) old.machine line words new.machine
-  pub by_shadow : tells → UsesShadow old → names_command line ≡ true
-      → (words : List ℕ) × (said ≡ said_at (step_of new) (words ∷ [])) × ShadowMapped (budget_of old) old.machine line words new.machine
-  pub cause : UsesEither old → names_command line ≡ true → SaysHardware said → Rose old.machine.device.store.flash.faults new.machine.device.store.flash.faults
-  pub enough : UsesEither old → names_command line ≡ true → enough_steps (client_of old).timings ≤ budget_of old → (SaysStopped said → ⊥) × (SaysLate said → ⊥)
+pub record LinePlayed (tells : Type 0) (counts : List ℕ) (old : PlayerState) (played : Played) : Type 0 where
+  pub plays : Plays tells counts old played
+  pub happened : HasHappened tells old.machine played.left.machine
+  pub by_map : tells → UsesOwn old → names_command played.line ≡ true
+      → (words : List ℕ) × (played.said ≡ said_at (step_of played.left) (words ∷ [])) × Mapped (budget_of old) old.machine played.line words played.left.machine
+  pub by_shadow : tells → UsesShadow old → names_command played.line ≡ true
+      → (words : List ℕ) × (played.said ≡ said_at (step_of played.left) (words ∷ [])) × ShadowMapped (budget_of old) old.machine played.line words played.left.machine
+  pub cause : UsesEither old → names_command played.line ≡ true → SaysHardware played.said → Rose old.machine.device.store.flash.faults played.left.machine.device.store.flash.faults
+  pub enough : UsesEither old → names_command played.line ≡ true → enough_steps (client_of old).timings ≤ budget_of old → (SaysStopped played.said → ⊥) × (SaysLate played.said → ⊥)
   -- and power lost in it leaves the records from before it, or as it leaves them where nothing fails
-  pub leaves : tells → (names_command line ≡ true → UsesEither old) → IsOwnLine line → steps ≡ [] → LineLeaves (client_of old).range old.machine line new.machine
+  pub leaves : tells → (names_command played.line ≡ true → UsesEither old) → IsOwnLine played.line → played.steps ≡ [] → LineLeaves (client_of old).range old.machine played.line played.left.machine
   -- but where it made turns of the bridge, each of these is shown and is the record map's, and each block that they stored stays stored
-  pub turned : tells → old.own ≡ own_client old.machine → TurnsShown (budget_of old) old.bridge old.machine steps new.machine
+  pub turned : tells → old.own ≡ own_client old.machine → TurnsShown (budget_of old) old.bridge old.machine played.steps played.left.machine
 
 -- a line with a table to be kept: its bytes begin with one, or it names the machine's second
 pub data BringsTable : Line → Type 0 where
@@ -169,24 +183,30 @@ Stops tells old line new FlashFault = (machine : MachineState) × FailsRestart t
     × Rose old.machine.device.store.flash.faults machine.device.store.flash.faults × (new ≡ with_machine machine old)
 Stops tells old line new Memory = (new ≡ old) × BringsTable line
 
+-- what a line finds and leaves: the player, or its machine alone, and the listeners
+pub record Stage (S L : Type 0) : Type 0 where
+  pub state : S
+  pub members : List L
+
+abbrev pub stage_in : {S L : Type 0} → S → List L → Stage S L
+stage_in state members = record { state = state; members = members }
+
 -- a line was played, its listeners told, and its replies written
-pub record PlaysLine {L : Type 0} (hearing : L → Hearing) (tells told_sink : Type 0)
-    (old new : PlayerState) (members members_now : List L) (line : Line) (written written_now : List ℕ) : Type 0 where
+pub record PlaysLine {L : Type 0} (hearing : L → Hearing) (tells : Type 0) (sink : Stream) (old : Stage PlayerState L) (line : Line) (new : Stage PlayerState L) : Type 0 where
   pub said : List Reply
   pub blocks : List (List ℕ)
   pub steps : List Step
-  pub played : LinePlayed tells (counts_of hearing members) old line said blocks steps new
-  pub told : Told hearing blocks members members_now
-  pub text : told_sink → written_now ≡ written ++ text_of_replies said
+  pub played : LinePlayed tells (counts_of hearing old.members) old.state (played_as line said blocks steps new.state)
+  pub told : Told hearing blocks old.members new.members
+  pub text : sink.tells → sink.after ≡ sink.before ++ text_of_replies said
 
 -- the same of a line that asks the machine itself
-pub record Occurred {L : Type 0} (hearing : L → Hearing) (tells told_sink : Type 0)
-    (old new : MachineState) (members members_now : List L) (line : Line) (written written_now : List ℕ) : Type 0 where
+pub record Occurred {L : Type 0} (hearing : L → Hearing) (tells : Type 0) (sink : Stream) (old : Stage MachineState L) (line : Line) (new : Stage MachineState L) : Type 0 where
   pub words : List (List ℕ)
   pub blocks : List (List ℕ)
-  pub happened : Happened tells old line words blocks new
-  pub told : Told hearing blocks members members_now
-  pub text : told_sink → written_now ≡ written ++ replies_at (changes_in new) words
+  pub happened : Happened tells old.state line words blocks new.state
+  pub told : Told hearing blocks old.members new.members
+  pub text : sink.tells → sink.after ≡ sink.before ++ replies_at (changes_in new.state) words
 
 -- What is left of a line where the sink refused a reply: the line, what was made of it, the replies to that, those of them that were written
 -- whole, and the one that was refused. It is the last one, that of a block of the boot error region, or that of a block which a turn took;
@@ -204,8 +224,7 @@ abbrev pub PartlyWritten : List Reply → Reply → List ℕ → List ℕ → Ty
 PartlyWritten before last written written_now = (n : ℕ) × (written_now ≡ written ++ text_of_replies before ++ take n (text_of_reply last))
 
 -- a line was played, or what is left of it, and its listeners told. The sink refused a reply
-pub record PlaysUnwritten {L : Type 0} (hearing : L → Hearing) (tells told_sink : Type 0)
-    (old new : PlayerState) (members members_now : List L) (line : Line) (written written_now : List ℕ) : Type 0 where
+pub record PlaysUnwritten {L : Type 0} (hearing : L → Hearing) (tells : Type 0) (sink : Stream) (old : Stage PlayerState L) (line : Line) (new : Stage PlayerState L) : Type 0 where
   pub made : Line
   pub said : List Reply
   pub before : List Reply
@@ -213,19 +232,18 @@ pub record PlaysUnwritten {L : Type 0} (hearing : L → Hearing) (tells told_sin
   pub left : LeftIn line made said before last
   pub blocks : List (List ℕ)
   pub steps : List Step
-  pub played : LinePlayed tells (counts_of hearing members) old made said blocks steps new
-  pub told : Told hearing blocks members members_now
-  pub text : told_sink → PartlyWritten before last written written_now
+  pub played : LinePlayed tells (counts_of hearing old.members) old.state (played_as made said blocks steps new.state)
+  pub told : Told hearing blocks old.members new.members
+  pub text : sink.tells → PartlyWritten before last sink.before sink.after
 
 -- the same of a line that asks the machine itself
-pub record OccurredUnwritten {L : Type 0} (hearing : L → Hearing) (tells told_sink : Type 0)
-    (old new : MachineState) (members members_now : List L) (line : Line) (written written_now : List ℕ) : Type 0 where
+pub record OccurredUnwritten {L : Type 0} (hearing : L → Hearing) (tells : Type 0) (sink : Stream) (old : Stage MachineState L) (line : Line) (new : Stage MachineState L) : Type 0 where
   pub made : Line
   pub words : List (List ℕ)
   pub before : List Reply
   pub last : Reply
-  pub left : LeftIn line made (said_at (changes_in new) words) before last
+  pub left : LeftIn line made (said_at (changes_in new.state) words) before last
   pub blocks : List (List ℕ)
-  pub happened : Happened tells old made words blocks new
-  pub told : Told hearing blocks members members_now
-  pub text : told_sink → PartlyWritten before last written written_now
+  pub happened : Happened tells old.state made words blocks new.state
+  pub told : Told hearing blocks old.members new.members
+  pub text : sink.tells → PartlyWritten before last sink.before sink.after

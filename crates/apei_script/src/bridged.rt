@@ -6,12 +6,15 @@ ghost use Rattle.erst_bridge.specs.declared.events.BridgeEvent.TheVariants.{Kept
 ghost use Rattle.erst_bridge.specs.Bridges.{Off};
 ghost use Rattle.erst_bridge.specs.Turns.{OfBridge, IsTurn};
 ghost use Rattle.erst_bridge.specs.Made.{turn_of, side_in};
+ghost use Rattle.script_lines.specs.Streams.{stream_of};
 ghost use Rattle.script_text.specs.ScriptGrammar.{bridge, turns};
 ghost use Rattle.apei_script.specs.Words.{reply_at};
 ghost use Rattle.script_text.specs.Turns.{side_of};
 ghost use Rattle.apei_script.specs.Bridged.{HasTaken, words_of_turn, words_of_made};
+ghost use Rattle.apei_notify.specs.Chains.{boxed};
+ghost use Rattle.apei_script.specs.Plays.{PlaysLine, PlaysUnwritten};
 ghost use Rattle.apei_script.specs.Sessions.{state_of, SameClients, MakesReply};
-ghost use Rattle.apei_script.specs.Played.{AreBridged, AreBridgedUnwritten};
+ghost use Rattle.apei_script.specs.Played.{stage_of};
 
 use crate::events::hear_of_block;
 use crate::reply::{end_line, put_number};
@@ -59,10 +62,12 @@ pub fn bridged_turns<F: Flash, O: Sink>(
 ) -> Result<(), SinkFault>
     requires few { length letters.now ≤ 4096 }
     requires on { session.old.bridge ≢ Off }
-    ensures played { OnOk result (AreBridged hearing F.tells O.tells session.old chain.old letters.now session.new
-        chain.new (O.written out.old) (O.written out.new)) }
-    ensures unwritten { OnErr result (AreBridgedUnwritten hearing F.tells O.tells session.old chain.old letters.now
-        session.new chain.new (O.written out.old) (O.written out.new)) }
+    ensures played { OnOk result (PlaysLine (boxed hearing) F.tells
+        (stream_of O.tells (O.written out.old) (O.written out.new)) (stage_of session.old chain.old)
+        (turns letters.now) (stage_of session.new chain.new)) }
+    ensures unwritten { OnErr result (PlaysUnwritten (boxed hearing) F.tells
+        (stream_of O.tells (O.written out.old) (O.written out.new)) (stage_of session.old chain.old)
+        (turns letters.now) (stage_of session.new chain.new)) }
     ensures cause { HasCause (O.faults out.old) (O.faults out.new) result }
 {
     session.machine.stands();

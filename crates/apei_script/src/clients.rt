@@ -1,12 +1,12 @@
 // Commands of the client in use that no line gave: each is played as its line is, and its result answered in place of the line's reply.
-ghost use Rattle.std.specs.Prelude.{◌≡◌, ◌≤◌, ℕ, List, length};
+ghost use Rattle.std.specs.Prelude.{◌≡◌, ◌≤◌, length};
 ghost use Rattle.hex.specs.Hex.{encode_lower};
-ghost use Rattle.script_text.specs.ScriptGrammar.{write, read, clear, count, next};
-ghost use Rattle.apei_script.specs.Players.{budget_of};
-ghost use Rattle.apei_script.specs.Words.{words_of_write, words_of_read, words_of_clear, words_of_count, words_of_next};
-ghost use Rattle.apei_script.specs.Asked.{Commanded};
+ghost use Rattle.script_text.specs.ScriptGrammar.{write, clear, count, next};
+ghost use Rattle.apei_script.specs.Players.{budget_of, asker_of};
+ghost use Rattle.apei_script.specs.Words.{words_of_write, words_of_clear, words_of_count, words_of_next};
+ghost use Rattle.apei_script.specs.Asked.{ReadAsked};
 ghost use Rattle.apei_script.specs.Plays.{IsPlayable};
-ghost use Rattle.apei_script.specs.Sessions.{state_of, CommandPlayed};
+ghost use Rattle.apei_script.specs.Sessions.{state_of, CommandPlayed, ReadPlayed, AnswersWrite, AnswersClear, AnswersCount, AnswersNext};
 
 use crate::commands::READ_BUFFER;
 use crate::session::Session;
@@ -29,8 +29,9 @@ impl<F: Flash> Session<F> {
     /// Writes an error record.
     pub fn write(&mut self, bytes: &[u8]) -> Result<(), ClientError>
         requires playable { IsPlayable (write (encode_lower bytes.now)) }
-        ensures { CommandPlayed F.tells (state_of self.old) (write (encode_lower bytes.now)) (state_of self.new)
+        ensures played { CommandPlayed F.tells (state_of self.old) (write (encode_lower bytes.now)) (state_of self.new)
             (words_of_write bytes.now result) }
+        ensures answers { AnswersWrite F.tells (state_of self.old) bytes.now result (state_of self.new) }
     {
         self.machine.stands();
         let steps = self.budget();
@@ -44,8 +45,7 @@ impl<F: Flash> Session<F> {
 
     /// Reads the record of an identifier, and answers how many bytes it has.
     pub fn read(&mut self, id: u64) -> Result<usize, ClientError>
-        ensures { (shown : List ℕ) × CommandPlayed F.tells (state_of self.old) (read id) (state_of self.new)
-            (words_of_read shown result) }
+        ensures { ReadPlayed F.tells (state_of self.old) id result (state_of self.new) }
     {
         self.machine.stands();
         let steps = self.budget();
@@ -69,8 +69,9 @@ impl<F: Flash> Session<F> {
 
     /// Clears the record of an identifier.
     pub fn clear(&mut self, id: u64) -> Result<(), ClientError>
-        ensures { CommandPlayed F.tells (state_of self.old) (clear id) (state_of self.new)
+        ensures played { CommandPlayed F.tells (state_of self.old) (clear id) (state_of self.new)
             (words_of_clear id result) }
+        ensures answers { AnswersClear F.tells (state_of self.old) id result (state_of self.new) }
     {
         self.machine.stands();
         let steps = self.budget();
@@ -84,7 +85,8 @@ impl<F: Flash> Session<F> {
 
     /// Asks how many records are stored.
     pub fn count(&mut self) -> Result<u64, ClientError>
-        ensures { CommandPlayed F.tells (state_of self.old) count (state_of self.new) (words_of_count result) }
+        ensures played { CommandPlayed F.tells (state_of self.old) count (state_of self.new) (words_of_count result) }
+        ensures answers { AnswersCount F.tells (state_of self.old) result (state_of self.new) }
     {
         self.machine.stands();
         let steps = self.budget();
@@ -96,7 +98,8 @@ impl<F: Flash> Session<F> {
 
     /// Asks for the next identifier, `None` where there is none.
     pub fn next(&mut self) -> Result<Option<u64>, ClientError>
-        ensures { CommandPlayed F.tells (state_of self.old) next (state_of self.new) (words_of_next result) }
+        ensures played { CommandPlayed F.tells (state_of self.old) next (state_of self.new) (words_of_next result) }
+        ensures answers { AnswersNext F.tells (state_of self.old) result (state_of self.new) }
     {
         self.machine.stands();
         let steps = self.budget();
@@ -116,8 +119,7 @@ fn read_by<F: Flash>(
     bytes: &mut [u8],
 ) -> Result<usize, ClientError>
     requires room { 65536 ≤ length bytes.old }
-    ensures commanded { (shown : List ℕ) × Commanded F.tells client.old steps machine.old (read id)
-        (words_of_read shown result) machine.new }
+    ensures asked { ReadAsked F.tells (asker_of client.old steps) machine.old id result machine.new }
     ensures kept { client.new ≡ client.old }
     ensures size { length bytes.new ≡ length bytes.old }
 {

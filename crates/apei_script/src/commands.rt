@@ -4,7 +4,7 @@ ghost use Rattle.script_lines.specs.declared.lengths.TheConstants.{LONGEST_BYTES
 ghost use Rattle.script_lines.specs.Parts.{IsPairs};
 ghost use Rattle.script_text.specs.ScriptGrammar.{Line, write, read, clear, count, next, dummy, action};
 ghost use Rattle.script_text.specs.ScriptText.{line_of};
-ghost use Rattle.apei_script.specs.{Players.budget_by, Words.words_of_write, Replies.IsMade, Asked.Answers, Plays.IsPlayable, Plays.asks_client, Sessions.state_of, Sessions.MakesReply};
+ghost use Rattle.apei_script.specs.{Players.budget_by, Players.asker_of, Words.words_of_write, Replies.IsMade, Asked.Answers, Plays.IsPlayable, Plays.asks_client, Sessions.state_of, Sessions.MakesReply};
 
 use crate::refusals::{refuse, refuse_behind};
 use crate::reply::{put_number, put_record};
@@ -60,8 +60,8 @@ fn run_command<F: Flash>(
     requires playable { IsPlayable (line_of line.now) }
     requires asks { asks_client (line_of line.now) ≡ true }
     requires room { length bytes.old ≡ LONGEST_BYTES }
-    ensures answers { Answers F.tells client.old (budget_by steps client.old) machine.old (line_of line.now)
-        machine.new reply.new }
+    ensures answers { Answers F.tells (asker_of client.old (budget_by steps client.old)) machine.old
+        (line_of line.now) machine.new reply.new }
     ensures kept { client.new ≡ client.old }
     ensures size { length bytes.new ≡ length bytes.old }
 {
@@ -91,7 +91,7 @@ fn write_record<F: Flash>(
 )
     requires pairs { IsPairs hex.now }
     requires room { length hex.now ≤ 2 * length bytes.old }
-    ensures answers { Answers F.tells client.old steps machine.old (write hex.now) machine.new reply.new }
+    ensures answers { Answers F.tells (asker_of client.old steps) machine.old (write hex.now) machine.new reply.new }
     ensures kept { client.new ≡ client.old }
     ensures size { length bytes.new ≡ length bytes.old }
 {
@@ -123,7 +123,7 @@ fn read_record<F: Flash>(
     reply: &mut Reply,
 )
     requires room { 65536 ≤ length bytes.old }
-    ensures answers { Answers F.tells client.old steps machine.old (read id) machine.new reply.new }
+    ensures answers { Answers F.tells (asker_of client.old steps) machine.old (read id) machine.new reply.new }
     ensures kept { client.new ≡ client.old }
     ensures size { length bytes.new ≡ length bytes.old }
 {
@@ -142,7 +142,7 @@ fn clear_record<F: Flash>(
     id: u64,
     reply: &mut Reply,
 )
-    ensures answers { Answers F.tells client.old steps machine.old (clear id) machine.new reply.new }
+    ensures answers { Answers F.tells (asker_of client.old steps) machine.old (clear id) machine.new reply.new }
     ensures kept { client.new ≡ client.old }
 {
     match client.clear(id, &mut Budget::new(steps), machine) {
@@ -158,7 +158,7 @@ fn count_records<F: Flash>(
     steps: u64,
     reply: &mut Reply,
 )
-    ensures answers { Answers F.tells client.old steps machine.old count machine.new reply.new }
+    ensures answers { Answers F.tells (asker_of client.old steps) machine.old count machine.new reply.new }
     ensures kept { client.new ≡ client.old }
 {
     match client.count(&mut Budget::new(steps), machine) {
@@ -169,7 +169,7 @@ fn count_records<F: Flash>(
 
 /// Shows the next identifier.
 fn show_next<F: Flash>(client: &mut Client, machine: &mut Machine<F>, steps: u64, reply: &mut Reply)
-    ensures answers { Answers F.tells client.old steps machine.old next machine.new reply.new }
+    ensures answers { Answers F.tells (asker_of client.old steps) machine.old next machine.new reply.new }
     ensures kept { client.new ≡ client.old }
 {
     match client.next(&mut Budget::new(steps), machine) {
@@ -186,7 +186,7 @@ fn write_dummy<F: Flash>(
     steps: u64,
     reply: &mut Reply,
 )
-    ensures answers { Answers F.tells client.old steps machine.old dummy machine.new reply.new }
+    ensures answers { Answers F.tells (asker_of client.old steps) machine.old dummy machine.new reply.new }
     ensures kept { client.new ≡ client.old }
 {
     match client.dummy(&mut Budget::new(steps), machine) {
@@ -205,7 +205,8 @@ fn run_action<F: Flash>(
     reply: &mut Reply,
 )
     requires { code ≤ 255 }
-    ensures answers { Answers F.tells client.now steps machine.old (action code value) machine.new reply.new }
+    ensures answers { Answers F.tells (asker_of client.now steps) machine.old (action code value) machine.new
+        reply.new }
 {
     let program = client.table().program(code as u8);
     match run(&program, value, &mut Budget::new(steps), machine) {

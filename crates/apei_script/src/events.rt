@@ -6,11 +6,14 @@ ghost use Rattle.ghes_block.specs.Region.{next_from};
 ghost use Rattle.ghes_ack.specs.Machine.{Fits};
 ghost use Rattle.erst_machine.specs.Events.{Turns};
 ghost use Rattle.apei_script.specs.Replies.{IsMade};
+ghost use Rattle.script_lines.specs.Streams.{stream_of};
+ghost use Rattle.script_text.specs.ScriptGrammar.{turns as turns_of};
 ghost use Rattle.script_text.specs.Turns.{side_of};
 ghost use Rattle.apei_script.specs.Words.{words_of_turns, words_of_heard, words_of_block, words_of_bert, reply_at};
-ghost use Rattle.apei_script.specs.Plays.{changes_in};
+ghost use Rattle.apei_notify.specs.Chains.{members_of, boxed};
+ghost use Rattle.apei_script.specs.Plays.{changes_in, stage_in, Occurred, OccurredUnwritten};
 ghost use Rattle.apei_script.specs.Sessions.{state_of, SameClients, Lists, ListsUnwritten};
-ghost use Rattle.apei_script.specs.Played.{AreTold, heard_by, AreTurned, AreTurnedUnwritten};
+ghost use Rattle.apei_script.specs.Played.{AreTold, heard_by};
 
 use crate::reply::{end_line, put_block};
 use crate::session::Session;
@@ -31,10 +34,12 @@ pub fn turns<F: Flash, O: Sink>(
     out: &mut O,
 ) -> Result<(), SinkFault>
     requires { length letters.now ≤ 4096 }
-    ensures occurred { OnOk result (AreTurned hearing F.tells O.tells session.old chain.old letters.now session.new
-        chain.new (O.written out.old) (O.written out.new)) }
-    ensures unwritten { OnErr result (AreTurnedUnwritten hearing F.tells O.tells session.old chain.old letters.now
-        session.new chain.new (O.written out.old) (O.written out.new)) }
+    ensures occurred { OnOk result (Occurred (boxed hearing) F.tells
+        (stream_of O.tells (O.written out.old) (O.written out.new)) (stage_in session.old.machine (members_of chain.old))
+        (turns_of letters.now) (stage_in session.new.machine (members_of chain.new))) }
+    ensures unwritten { OnErr result (OccurredUnwritten (boxed hearing) F.tells
+        (stream_of O.tells (O.written out.old) (O.written out.new)) (stage_in session.old.machine (members_of chain.old))
+        (turns_of letters.now) (stage_in session.new.machine (members_of chain.new))) }
     ensures clients { SameClients session.old session.new }
     ensures bridge { session.new.bridge ≡ session.old.bridge }
     ensures cause { HasCause (O.faults out.old) (O.faults out.new) result }
@@ -113,9 +118,10 @@ pub fn list_blocks<F: Flash, O: Sink>(
     session: &mut Session<F>,
     out: &mut O,
 ) -> Result<(), SinkFault>
-    ensures listed { OnOk result (Lists F.tells O.tells session.old.machine (O.written out.old) (O.written out.new)) }
-    ensures unwritten { OnErr result (ListsUnwritten F.tells O.tells session.old.machine (O.written out.old)
-        (O.written out.new)) }
+    ensures listed { OnOk result (Lists F.tells (stream_of O.tells (O.written out.old) (O.written out.new))
+        session.old.machine) }
+    ensures unwritten { OnErr result (ListsUnwritten F.tells
+        (stream_of O.tells (O.written out.old) (O.written out.new)) session.old.machine) }
     ensures session { state_of session.new ≡ state_of session.old }
     ensures cause { HasCause (O.faults out.old) (O.faults out.new) result }
 {

@@ -12,9 +12,7 @@ ghost use Rattle.erst_machine.specs.Shown.{IsShown, made_by_event, changes_of, s
 ghost use Rattle.erst_commands.specs.Attached.{own_client};
 ghost use Rattle.erst_commands.specs.Equivalence.{EquivalentMachines, FailedNothing, BootsFrom};
 ghost use Rattle.apei_script.specs.Players.{PlayerState, GivenNoOther};
-ghost use Rattle.script_text.specs.ScriptGrammar.{Line};
-ghost use Rattle.erst_bridge.specs.{Turns.Step, MachinesInStep.KeepOrder, Shown.IsStoredAs};
-ghost use Rattle.apei_script.specs.Words.{Reply};
+ghost use Rattle.erst_bridge.specs.{MachinesInStep.KeepOrder, Shown.IsStoredAs};
 ghost use Rattle.apei_script.specs.Plays.{Plays, HasHappened};
 ghost use Rattle.apei_script.specs.KeptCauses.{AllHaveCauses};
 ghost use Rattle.apei_script.specs.Orders.{HasNoBridge, IsInStep, AlwaysInStep, AllGiveStoredBack};
@@ -89,10 +87,8 @@ pub fn stored_blocks_stay<F: Flash>()
 /// A bridge that is on stays in step with the handover, whatever the tables and actions of the lines; and in each line of turns the reader
 /// gives a block back behind the storing of its record: the block that it clears or acknowledges is the one that was stored last.
 pub fn lines_keep_in_step<F: Flash>()
-    ensures line { (counts : List ℕ) (old : PlayerState) (line : Line) (said : List Reply) (blocks : List (List ℕ))
-        (steps : List Step) (new : PlayerState) → IsMachine old.machine
-        → Plays F.tells counts old line said blocks steps new → IsInStep old → KeepOrder old.bridge steps
-        × IsInStep new }
+    ensures line { (counts : List ℕ) (old : PlayerState) (played : Played) → IsMachine old.machine
+        → Plays F.tells counts old played → IsInStep old → KeepOrder old.bridge played.steps × IsInStep played.left }
     ensures lines { (wants : List (ℕ → Bool)) (counts : List ℕ) (first : PlayerState) (played : List Played)
         (last : PlayerState) → IsMachine first.machine → Follows F.tells wants counts first played last
         → IsInStep first → AlwaysInStep first played }

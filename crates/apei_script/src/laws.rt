@@ -4,12 +4,10 @@ ghost use Rattle.base_model.specs.Faults.{Rose};
 ghost use Rattle.apei_space.specs.Accesses.{Move, Trail};
 ghost use Rattle.erst_machine.specs.MachineState.{MachineState, IsMachine};
 ghost use Rattle.erst_machine.specs.Events.{Event, Happens};
-ghost use Rattle.erst_bridge.specs.Turns.{Step};
 ghost use Rattle.script_text.specs.ScriptGrammar.{Line, IsValid};
 ghost use Rattle.apei_script.specs.Players.{PlayerState};
-ghost use Rattle.apei_script.specs.Words.{Reply};
 ghost use Rattle.apei_script.specs.Changes.{changes_along};
-ghost use Rattle.apei_script.specs.Plays.{Plays, FailsRestart, HasHappened, LinePlayed};
+ghost use Rattle.apei_script.specs.Plays.{Played, Plays, FailsRestart, HasHappened, LinePlayed};
 
 use erst_commands::own_programs_run_through;
 use flash_model::Flash;
@@ -28,10 +26,8 @@ pub fn events_take_their_changes<F: Flash>()
 
 /// Whatever was played of a line is all that `LinePlayed` says of it.
 pub fn a_line_is_the_maps<F: Flash>()
-    ensures { (counts : List ℕ) (old : PlayerState) (line : Line) (said : List Reply) (blocks : List (List ℕ))
-        (steps : List Step) (new : PlayerState) → IsMachine old.machine → IsValid line
-        → Plays F.tells counts old line said blocks steps new
-        → LinePlayed F.tells counts old line said blocks steps new }
+    ensures { (counts : List ℕ) (old : PlayerState) (played : Played) → IsMachine old.machine → IsValid played.line
+        → Plays F.tells counts old played → LinePlayed F.tells counts old played }
 {
     own_programs_run_through::<F>();
 }
@@ -44,16 +40,12 @@ pub fn a_failed_restart_has_happened<F: Flash>()
 
 /// A line leads from a machine's state to a machine's state, and keeps how the flash is divided, the first client and the steps of lines.
 pub fn a_line_keeps_a_machine<F: Flash>()
-    ensures machine { (counts : List ℕ) (old : PlayerState) (line : Line) (said : List Reply) (blocks : List (List ℕ))
-        (steps : List Step) (new : PlayerState) → IsMachine old.machine
-        → Plays F.tells counts old line said blocks steps new → IsMachine new.machine }
-    ensures layout { (counts : List ℕ) (old : PlayerState) (line : Line) (said : List Reply) (blocks : List (List ℕ))
-        (steps : List Step) (new : PlayerState) → Plays F.tells counts old line said blocks steps new
-        → new.machine.device.store.layout ≡ old.machine.device.store.layout }
-    ensures own { (counts : List ℕ) (old : PlayerState) (line : Line) (said : List Reply) (blocks : List (List ℕ))
-        (steps : List Step) (new : PlayerState) → Plays F.tells counts old line said blocks steps new
-        → new.own ≡ old.own }
-    ensures steps { (counts : List ℕ) (old : PlayerState) (line : Line) (said : List Reply) (blocks : List (List ℕ))
-        (steps : List Step) (new : PlayerState) → Plays F.tells counts old line said blocks steps new
-        → new.steps ≡ old.steps }
+    ensures machine { (counts : List ℕ) (old : PlayerState) (played : Played) → IsMachine old.machine
+        → Plays F.tells counts old played → IsMachine played.left.machine }
+    ensures layout { (counts : List ℕ) (old : PlayerState) (played : Played) → Plays F.tells counts old played
+        → played.left.machine.device.store.layout ≡ old.machine.device.store.layout }
+    ensures own { (counts : List ℕ) (old : PlayerState) (played : Played) → Plays F.tells counts old played
+        → played.left.own ≡ old.own }
+    ensures steps { (counts : List ℕ) (old : PlayerState) (played : Played) → Plays F.tells counts old played
+        → played.left.steps ≡ old.steps }
 {}

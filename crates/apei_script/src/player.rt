@@ -1,8 +1,9 @@
 // The player.
-ghost use Rattle.std.specs.Prelude.{◌≡◌, ◌≢◌, ◌≤◌, ℕ, List, [], length, true, Ok, Err, OnOk, OnErr, IfOk, IfErr};
+ghost use Rattle.std.specs.Prelude.{◌≡◌, ◌≢◌, ◌≤◌, [], length, true, Ok, Err, OnOk, OnErr, IfOk, IfErr};
 ghost use Rattle.hex.specs.Hex.{encode_lower};
 ghost use Rattle.base_model.specs.Faults.{Rose, HasCause};
-ghost use Rattle.script_text.specs.ScriptGrammar.{write, read, clear, count, next, turns as turns_of};
+ghost use Rattle.script_lines.specs.Streams.{stream_of};
+ghost use Rattle.script_text.specs.ScriptGrammar.{write, clear, count, next, turns as turns_of};
 ghost use Rattle.script_text.specs.ScriptText.{line_of};
 ghost use Rattle.apei_notify.specs.Chains.{members_of};
 ghost use Rattle.apei_script.specs.declared.player.PlayStop.TheVariants.{SinkFault as TheSinkFault};
@@ -11,8 +12,8 @@ ghost use Rattle.erst_bridge.specs.Bridges.{Off};
 ghost use Rattle.erst_machine.specs.MachineState.{IsMachine};
 ghost use Rattle.erst_machine.specs.Shown.{changes_of};
 ghost use Rattle.apei_script.specs.Plays.{IsPlayable, Stops, step_of, has_one_reply};
-ghost use Rattle.apei_script.specs.Words.{words_of_write, words_of_read, words_of_clear, words_of_count, words_of_next};
-ghost use Rattle.apei_script.specs.Sessions.{state_of, CommandPlayed, LineAnswered};
+ghost use Rattle.apei_script.specs.Words.{words_of_write, words_of_clear, words_of_count, words_of_next};
+ghost use Rattle.apei_script.specs.Sessions.{state_of, CommandPlayed, ReadPlayed, LineAnswered, AnswersWrite, AnswersClear, AnswersCount, AnswersNext};
 ghost use Rattle.apei_script.specs.Played.{IsPlayed, IsUnwritten, IsStopped};
 
 use crate::bridged::bridged_turns;
@@ -100,11 +101,10 @@ impl<F: Flash> Player<F> {
     /// Plays one line, and writes its replies.
     pub fn play<O: Sink>(&mut self, line: &ScriptLine<'_>, out: &mut O) -> Result<(), PlayStop>
         requires { IsPlayable (line_of line.now) }
-        ensures played { OnOk result (IsPlayed hearing F.tells O.tells self.old (line_of line.now) self.new
-            (O.written out.old) (O.written out.new)) }
-        ensures unwritten { result ≡ Err PlayStop.SinkFault
-            → IsUnwritten hearing F.tells O.tells self.old (line_of line.now) self.new (O.written out.old)
-            (O.written out.new) }
+        ensures played { OnOk result (IsPlayed hearing F.tells
+            (stream_of O.tells (O.written out.old) (O.written out.new)) self.old (line_of line.now) self.new) }
+        ensures unwritten { result ≡ Err PlayStop.SinkFault → IsUnwritten hearing F.tells
+            (stream_of O.tells (O.written out.old) (O.written out.new)) self.old (line_of line.now) self.new }
         ensures stopped { IfErr result (λ stop. stop ≢ PlayStop.SinkFault
             → IsStopped F.tells self.old (line_of line.now) self.new stop × (out.new ≡ out.old)) }
         ensures fault { result ≡ Err PlayStop.SinkFault → Rose (O.faults out.old) (O.faults out.new) }
@@ -126,10 +126,10 @@ impl<F: Flash> Player<F> {
     /// Makes the turns of a line: while the bridge is on, those of the reader are the bridge's.
     fn make_turns<O: Sink>(&mut self, letters: &[u8], out: &mut O) -> Result<(), SinkFault>
         requires { length letters.now ≤ 4096 }
-        ensures played { OnOk result (IsPlayed hearing F.tells O.tells self.old (turns_of letters.now) self.new
-            (O.written out.old) (O.written out.new)) }
-        ensures unwritten { OnErr result (IsUnwritten hearing F.tells O.tells self.old (turns_of letters.now) self.new
-            (O.written out.old) (O.written out.new)) }
+        ensures played { OnOk result (IsPlayed hearing F.tells
+            (stream_of O.tells (O.written out.old) (O.written out.new)) self.old (turns_of letters.now) self.new) }
+        ensures unwritten { OnErr result (IsUnwritten hearing F.tells
+            (stream_of O.tells (O.written out.old) (O.written out.new)) self.old (turns_of letters.now) self.new) }
         ensures cause { HasCause (O.faults out.old) (O.faults out.new) result }
     {
         if self.session.bridge.is_on() {
@@ -145,6 +145,8 @@ impl<F: Flash> Player<F> {
         requires playable { IsPlayable (write (encode_lower bytes.now)) }
         ensures played { CommandPlayed F.tells (state_of self.old.session) (write (encode_lower bytes.now))
             (state_of self.new.session) (words_of_write bytes.now result) }
+        ensures answers { AnswersWrite F.tells (state_of self.old.session) bytes.now result
+            (state_of self.new.session) }
         ensures listeners { members_of self.new.chain ≡ members_of self.old.chain }
     {
         self.session.write(bytes)
@@ -152,8 +154,7 @@ impl<F: Flash> Player<F> {
 
     /// Reads the record of an identifier, and answers how many bytes it has.
     pub fn read(&mut self, id: u64) -> Result<usize, ClientError>
-        ensures played { (shown : List ℕ) × CommandPlayed F.tells (state_of self.old.session) (read id)
-            (state_of self.new.session) (words_of_read shown result) }
+        ensures played { ReadPlayed F.tells (state_of self.old.session) id result (state_of self.new.session) }
         ensures listeners { members_of self.new.chain ≡ members_of self.old.chain }
     {
         self.session.read(id)
@@ -163,6 +164,7 @@ impl<F: Flash> Player<F> {
     pub fn clear(&mut self, id: u64) -> Result<(), ClientError>
         ensures played { CommandPlayed F.tells (state_of self.old.session) (clear id) (state_of self.new.session)
             (words_of_clear id result) }
+        ensures answers { AnswersClear F.tells (state_of self.old.session) id result (state_of self.new.session) }
         ensures listeners { members_of self.new.chain ≡ members_of self.old.chain }
     {
         self.session.clear(id)
@@ -172,6 +174,7 @@ impl<F: Flash> Player<F> {
     pub fn count(&mut self) -> Result<u64, ClientError>
         ensures played { CommandPlayed F.tells (state_of self.old.session) count (state_of self.new.session)
             (words_of_count result) }
+        ensures answers { AnswersCount F.tells (state_of self.old.session) result (state_of self.new.session) }
         ensures listeners { members_of self.new.chain ≡ members_of self.old.chain }
     {
         self.session.count()
@@ -181,6 +184,7 @@ impl<F: Flash> Player<F> {
     pub fn next(&mut self) -> Result<Option<u64>, ClientError>
         ensures played { CommandPlayed F.tells (state_of self.old.session) next (state_of self.new.session)
             (words_of_next result) }
+        ensures answers { AnswersNext F.tells (state_of self.old.session) result (state_of self.new.session) }
         ensures listeners { members_of self.new.chain ≡ members_of self.old.chain }
     {
         self.session.next()

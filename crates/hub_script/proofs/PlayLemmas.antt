@@ -16,7 +16,7 @@ use Rattle.hub_script.specs.RefusalWords.{words_of_refusal}
 use Rattle.hub_script.specs.declared.refusals.HubRefusal.TheVariants.{NoHub}
 use Rattle.hub_script.specs.Replies.{refused, reply_line, text_of_replies, words_of_block, words_of_turns, word_of}
 use Rattle.script_text.specs.Shown.{IsPartWritten}
-use Rattle.hub_script.specs.Streams.{stream_of}
+use Rattle.script_lines.specs.Streams.{stream_of}
 use Rattle.hub_script.specs.Stages.{HubStage, Waiting, Serving}
 use Rattle.hub_script.specs.Plays.{Plays, IsRefused, source_of, AllNamed, Turned, NoTurn, OneMore, AllTurned}
 use Rattle.script_text.specs.Turns.{side_of}

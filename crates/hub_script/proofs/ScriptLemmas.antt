@@ -13,7 +13,7 @@ use Rattle.script_lines.specs.Reads.{HasRead, StandsAt, AreReadInOrder, last_lin
 use Rattle.hub_script.specs.HubGrammar.{IsLine}
 use Rattle.hub_script.specs.HubText.{IsWritten}
 use Rattle.hub_script.specs.Replies.{text_of_replies, reply_line}
-use Rattle.hub_script.specs.Streams.{stream_of}
+use Rattle.script_lines.specs.Streams.{stream_of}
 use Rattle.hub_script.specs.Stages.{HubStage, Waiting, IsWaiting, members_in}
 use Rattle.hub_script.specs.Plays.{Plays}
 use Rattle.hub_script.specs.Lines.{PlaysLine, PlaysUnwritten, TextIs, GivesTable, PairsAreNamed}

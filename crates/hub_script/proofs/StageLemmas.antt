@@ -27,7 +27,7 @@ use Rattle.hub_script.specs.RefusalWords.{words_of_refusal, HubHasWords}
 use Rattle.hub_script.specs.declared.refusals.HubRefusal.TheVariants.{Open, Table, NoHub, Nobody, Submit}
 use Rattle.hub_script.specs.declared.refusals.HubRefusal.TheVariants as why_not
 use Rattle.hub_script.specs.Replies.{refused, reply_line, words_of_opened, words_of_queued, words_of_heard}
-use Rattle.hub_script.specs.Streams.{stream_of}
+use Rattle.script_lines.specs.Streams.{stream_of}
 use Rattle.hub_script.specs.Stages.{HubStage, Waiting, Serving, IsWaiting, stage_in}
 use Rattle.hub_script.specs.Plays.{Plays, listed, most_listed, named_at, NoTable, NoOpening, Opened, NoSource, NotTaken, Queued, NotNamed, NoneToCount, Counted, NoneToDrop, NoListener, Dropped}
 use Rattle.hub_script.specs.Made.{MakesReply, OpensFor, NotOpened, IsOpen}

@@ -1,4 +1,3 @@
-pub mod Streams
 pub mod Turns
 pub mod HubGrammar
 pub mod HubWords

@@ -9,7 +9,7 @@ use Rattle.ghes_hub.specs.Hubs.{Call}
 use Rattle.hub_script.specs.HubGrammar.{Line, blank, comment, hest, turns}
 use Rattle.hub_script.specs.HubText.{IsWritten}
 use Rattle.hub_script.specs.Replies.{text_of_replies, reply_line, words_of_turns}
-use Rattle.hub_script.specs.Streams.{Stream}
+use Rattle.script_lines.specs.Streams.{Stream}
 use Rattle.hub_script.specs.Stages.{HubStage, Waiting, Serving}
 use Rattle.hub_script.specs.Plays.{Plays, AllNamed}
 use Rattle.hub_script.specs.declared.hub_line.HubLine.{HubLine}

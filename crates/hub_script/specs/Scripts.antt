@@ -6,7 +6,7 @@ use Rattle.script_lines.specs.Lines.{Line as TextLine}
 use Rattle.script_lines.specs.Played.{EndsBehind, PlaysByFault}
 use Rattle.hub_script.specs.HubGrammar.{Line, IsLine}
 use Rattle.hub_script.specs.HubText.{IsWritten}
-use Rattle.hub_script.specs.Streams.{Stream}
+use Rattle.script_lines.specs.Streams.{Stream}
 use Rattle.hub_script.specs.Stages.{HubStage, Waiting, IsWaiting, members_in}
 use Rattle.hub_script.specs.Lines.{IsLeft, ArePartlyWritten, PairsAreNamed, GivesTable}
 use Rattle.hub_script.specs.History.{Played, Follows, AreServed, stage_behind, calls_of, text_of_played}

@@ -8,7 +8,7 @@ ghost use Rattle.hub_script.specs.declared.player.HubStop.TheVariants.{SinkFault
 ghost use Rattle.hub_script.specs.HubGrammar.{IsLine, IsValid, text_of, hest, error, turns, heard, removal};
 ghost use Rattle.hub_script.specs.HubText.{line_of};
 ghost use Rattle.hub_script.specs.Turns.{AreTurns};
-ghost use Rattle.hub_script.specs.Streams.{stream_of};
+ghost use Rattle.script_lines.specs.Streams.{stream_of};
 ghost use Rattle.hub_script.specs.Stages.{Waiting, members_in};
 ghost use Rattle.hub_script.specs.Lines.{PlaysLine, PlaysUnwritten, TextIs, BringsTable, GivesTable, IsTable};
 ghost use Rattle.hub_script.specs.Made.{stage_of, MakesReply, OpensFor};

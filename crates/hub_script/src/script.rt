@@ -1,8 +1,8 @@
 // A script of several error sources, played line by line.
 ghost use Rattle.std.specs.Prelude.{◌≡◌, ◌⊎◌, ⊤};
 ghost use Rattle.base_model.specs.Faults.{Rose};
-ghost use Rattle.script_lines.specs.{Causes.HasSourceCause, Causes.HasSinkCause, Ends.fault_of, Lines.lines_of, Played.AreInGrammar, Reads.first_reading};
-ghost use Rattle.hub_script.specs.{HubGrammar.IsLine, Made.stage_of, Scripts.PlaysScript, Scripts.ServesScript, Streams.stream_of};
+ghost use Rattle.script_lines.specs.{Causes.HasSourceCause, Causes.HasSinkCause, Ends.fault_of, Lines.lines_of, Played.AreInGrammar, Reads.first_reading, Streams.stream_of};
+ghost use Rattle.hub_script.specs.{HubGrammar.IsLine, Made.stage_of, Scripts.PlaysScript, Scripts.ServesScript};
 
 use crate::player::{HubPlayer, HubStop};
 use apei_bytes::{Sink, Source};

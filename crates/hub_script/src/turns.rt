@@ -10,7 +10,7 @@ ghost use Rattle.hub_script.specs.Stages.{Serving};
 ghost use Rattle.hub_script.specs.Plays.{source_of, named_at, AllNamed};
 ghost use Rattle.hub_script.specs.Lines.{PlaysLine, PlaysUnwritten};
 ghost use Rattle.hub_script.specs.Replies.{word_of, words_of_block, text_of_replies, reply_line};
-ghost use Rattle.hub_script.specs.Streams.{stream_of};
+ghost use Rattle.script_lines.specs.Streams.{stream_of};
 ghost use Rattle.script_text.specs.Shown.{IsPartWritten};
 
 use crate::blocks::show_block;

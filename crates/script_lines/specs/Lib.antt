@@ -4,6 +4,7 @@ pub mod Parts
 pub mod Words
 pub mod Causes
 pub mod Ends
+pub mod Streams
 pub mod Lines
 pub mod Reads
 pub mod Played

@@ -1,10 +1,12 @@
 // Commands are generated and played.
 ghost use Rattle.std.specs.Prelude.{◌≡◌, ⊤};
 ghost use Rattle.base_model.specs.Faults.{HasCause};
+ghost use Rattle.script_lines.specs.Streams.{stream_of};
 ghost use Rattle.apei_notify.specs.Chains.{members_of};
 ghost use Rattle.apei_script.specs.Sessions.{state_of};
 ghost use Rattle.apei_cli.specs.Commands.{line_for, HasSize};
 ghost use Rattle.apei_cli.specs.Generated.{IsRefusedIf, PlaysCommands};
+ghost use Rattle.apei_cli.specs.Orders.{batch_of};
 ghost use Rattle.apei_cli.specs.Summaries.{IsGenerated};
 
 use crate::generate::command::{Command, number_behind};
@@ -24,8 +26,8 @@ pub fn generate<F: Flash, O: Sink>(
     out: &mut O,
 ) -> Result<(), SinkFault>
     requires { ⊤ }
-    ensures generated { IsGenerated F.tells O.tells (state_of player.old.session) seed count
-        (state_of player.new.session) (O.written out.old) (O.written out.new) result }
+    ensures generated { IsGenerated F.tells (stream_of O.tells (O.written out.old) (O.written out.new))
+        (state_of player.old.session) (batch_of seed count) (state_of player.new.session) result }
     ensures listeners { members_of player.new.chain ≡ members_of player.old.chain }
     ensures cause { HasCause (O.faults out.old) (O.faults out.new) result }
 {

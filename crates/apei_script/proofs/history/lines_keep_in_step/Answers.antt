@@ -3,7 +3,7 @@ use Rattle.apei_script.proofs.GivenBack.{history_gives_back}
 use Rattle.apei_script.proofs.history.lines_keep_in_step.Goals as goal
 
 pub returns-clause-line : goal.returns-clause-line
-returns-clause-line g c = line_order g.F.Flash.tells
+returns-clause-line g c = λ counts old played. line_order g.F.Flash.tells counts old played.line played.said played.blocks played.steps played.left
 
 pub returns-clause-lines : goal.returns-clause-lines
 returns-clause-lines g c = history_order g.F.Flash.tells

@@ -31,8 +31,8 @@ returns-in-Read-clause-played g c =
     let played = c.read.ensures.played in
     rw c.in-Read.is (record {
       words = _;
-      played = played.1;
-      refused_is = c.is_err-in-Read.ensures.value ∙ read_refused played.0 c.read.result (step_of (state_of c.read.new.self.session));
+      played = played.played;
+      refused_is = c.is_err-in-Read.ensures.value ∙ read_refused played.asked.shown c.read.result (step_of (state_of c.read.new.self.session));
     })
 
 pub returns-in-Next-clause-played : goal.returns-in-Next-clause-played
