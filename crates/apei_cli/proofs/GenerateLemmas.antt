@@ -8,7 +8,7 @@ use Rattle.script_text.specs.ScriptGrammar.{Line, count}
 use Rattle.erst_client.specs.declared.errors.ClientError.{ClientError}
 use Rattle.erst_machine.specs.Shown.{changes_of}
 use Rattle.apei_script.specs.Players.{PlayerState}
-use Rattle.apei_script.specs.Words.{said_at, reply_at, words_of_write, words_of_read, words_of_clear, words_of_count, words_of_next}
+use Rattle.apei_script.specs.Words.{reply_at, words_of_write, words_of_read, words_of_clear, words_of_count, words_of_next}
 use Rattle.apei_script.specs.Plays.{IsOwnLine, step_of, one_reply}
 use Rattle.apei_script.specs.Sessions.{CommandPlayed}
 use Rattle.apei_script.specs.History.{Played, AreOwnLines, blocks_of, reply_of}

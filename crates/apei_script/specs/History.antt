@@ -12,7 +12,7 @@ use Rattle.erst_bridge.specs.Turns.{Step}
 use Rattle.erst_bridge.specs.Shown.{ShowsTurns}
 use Rattle.script_text.specs.ScriptGrammar.{Line}
 use Rattle.apei_script.specs.Players.{PlayerState, client_of, budget_of, UsesOwn, UsesShadow, UsesEither}
-use Rattle.apei_script.specs.Words.{Reply, said_at, text_of_replies}
+use Rattle.apei_script.specs.Words.{said_at, text_of_replies}
 use Rattle.apei_script.specs.Mapped.{Mapped, after_line}
 use Rattle.apei_script.specs.ShadowMapped.{ShadowMapped}
 pub use Rattle.apei_script.specs.Plays.{Played}
