@@ -2,12 +2,13 @@
 use Rattle.std.proofs.Common.{◌≡◌, ◌∙◌, ◌<◌, ◌+◌, ◌-◌, ℕ, suc, ◌==◌, Bool, true, false, ◌||◌, if◌then◌else◌, List, [], ◌∷◌, ◌++◌, length, take, Option, Some, None, refl, sym, ap, subst, append_assoc, append-nil, arith, true≢false}
 use Rattle.show_items.specs.Dumps.{AreDumpedAs, AreTables, Dumped, EndsTable, ReadsLine, TakesLine, behind_line, byte_and, first_pair, has_any, in_first, is_title, line_bytes, line_len, lines_of, pairs, place_behind, tables_from, tables_left, whole}
 use Rattle.show_items.specs.Items.{Shown}
-use Rattle.show_items.specs.Judged.{ShowsAll, ShowsOne}
-use Rattle.show_items.specs.Sheets.{ShowsItems}
+use Rattle.show_items.specs.Judged.{ShowsAll, ShowsOne, StopsAll, StopsIn, StopsOne}
+use Rattle.show_items.specs.Sheets.{ItemsBegun, ShowsItems}
 use Rattle.show_items.specs.Singles.{IsUnknown}
 use Rattle.show_items.specs.Tables.{IsTable}
 use Rattle.show_items.specs.declared.dumps.Dump.{Dump}
 use Rattle.show_items.specs.declared.sheet.Sheet.{Sheet}
+use Rattle.show_items.proofs.BeginningLemmas.{items_begun_then}
 use Rattle.show_items.proofs.SheetLemmas.{items_on_pages, items_then}
 
 -- a text that isn't empty has a first line, and the lines behind it
@@ -51,6 +52,15 @@ title_read line old ended new title ends rest at begin bytes some = record {
   some = some ∙ ends.some;
 }
 
+-- where the next line is a title, the table that is read comes first
+pub left_by_title : (old : Dump) (line : List ℕ) → 0 < length old.rest.now → line ≡ take (line_len old.rest.now) old.rest.now → is_title line ≡ true
+    → tables_left old ≡ whole old.begin old.table.items ++ tables_from (place_behind old.at line) old.at [] (lines_of (behind_line old.rest.now))
+left_by_title old line some same title =
+    let lines = lines_of (behind_line old.rest.now) in
+    ap (tables_from old.at old.begin old.table.items) (line_first old.rest.now some)
+    ∙ ap (λ (l : List ℕ). tables_from old.at old.begin old.table.items (l ∷ lines)) (sym same)
+    ∙ choice true line old lines title
+
 -- a line was taken
 pub line_taken : (old read new : Dump) (ended : List Dumped) → 0 < length old.rest.now → ReadsLine (take (line_len old.rest.now) old.rest.now) old read ended
     → new.at ≡ place_behind old.at (take (line_len old.rest.now) old.rest.now) → new.rest.now ≡ behind_line old.rest.now
@@ -65,10 +75,41 @@ line_taken old read new ended some reads at rest begin bytes has = record {
 }
 
 -- tables, some after others
-pub tables_then : (some more : List Dumped) (items others : List Shown) → AreTables some items → AreTables more others → AreTables (some ++ more) (items ++ others)
-tables_then [] more items others are rest = subst (λ (some : List Shown). AreTables more (some ++ others)) (sym are) rest
-tables_then (table ∷ some) more [] others are rest = absurd are
-tables_then (table ∷ some) more (item ∷ items) others are rest = (are.0, tables_then some more items others are.1 rest)
+pub tables_then : (early : Bool) (some more : List Dumped) (items others : List Shown) → AreTables false some items → AreTables early more others
+    → AreTables early (some ++ more) (items ++ others)
+tables_then early [] more items others are rest = subst (λ (some : List Shown). AreTables early more (some ++ others)) (sym are) rest
+tables_then early (table ∷ some) more [] others are rest = absurd are
+tables_then early (table ∷ some) more (item ∷ items) others are rest = (are.0, tables_then early some more items others are.1 rest)
+
+-- where it is early, none has to be shown
+no_tables : (tables : List Dumped) → AreTables true tables []
+no_tables [] = refl
+no_tables (table ∷ tables) = tt
+
+-- a stop at a table that has bytes
+pub whole_begun : (begin : ℕ) (bytes : List ℕ) (before after : Option (List ℕ)) (old : Sheet) → 0 < length bytes → StopsOne (IsTable (Some begin) bytes) before after old
+    → StopsAll (AreTables false (whole begin bytes)) before after old
+whole_begun begin [] before after old some begun = absurd (omega (arith, some))
+whole_begun begin (byte ∷ bytes) before after old some begun = (begun.0 ∷ [], (begun.1, refl), begun.2)
+
+-- a stop at the first tables is one of all
+pub tables_begun : (some more all : List Dumped) (before after : Option (List ℕ)) (old : Sheet) → all ≡ some ++ more → StopsAll (AreTables false some) before after old
+    → StopsIn (λ early. AreTables early all) before after old
+tables_begun some more all before after old same begun =
+    let are = tables_then true some more begun.0 [] begun.1 (no_tables more) in
+    let alone = subst (λ (items : List Shown). AreTables true (some ++ more) items) (append-nil begun.0) are in
+    (true, (begun.0, subst (λ (tables : List Dumped). AreTables true tables begun.0) (sym same) alone, begun.2))
+
+-- and one behind the first
+pub tables_behind : (some more all : List Dumped) (before middle after : Option (List ℕ)) (old between : Sheet) → all ≡ some ++ more
+    → ShowsAll (AreTables false some) before middle old between → StopsIn (λ early. AreTables early more) middle after between
+    → StopsIn (λ early. AreTables early all) before after old
+tables_behind some more all before middle after old between same shows begun =
+    let early = begun.0 in
+    let items = shows.0 ++ begun.1.0 in
+    let are : AreTables early (some ++ more) items = tables_then early some more shows.0 begun.1.0 shows.1 begun.1.1 in
+    let all_are = subst (λ (tables : List Dumped). AreTables early tables items) (sym same) are in
+    (early, (items, all_are, items_begun_then shows.0 begun.1.0 before middle after old between shows.2 begun.1.2))
 
 has_any_then : (some more : List Dumped) → has_any (some ++ more) ≡ (has_any some || has_any more)
 has_any_then [] more = refl
@@ -124,13 +165,20 @@ none_left (byte ∷ text) none = absurd (omega (arith, none))
 
 -- a text without a table is one item, and one with tables is these
 pub no_table : (tables : List Dumped) (text : List ℕ) (before after : Option (List ℕ)) (old middle new : Sheet) → has_any tables ≡ false
-    → ShowsAll (AreTables tables) before after old middle → ShowsOne (IsUnknown 0 text) (Some []) (Some []) middle new → ShowsAll (AreDumpedAs tables text) before after old new
+    → ShowsAll (AreTables false tables) before after old middle → ShowsOne (IsUnknown 0 text) (Some []) (Some []) middle new → ShowsAll (AreDumpedAs false tables text) before after old new
 no_table [] text before after old middle new none shows one =
     let first : ShowsItems [] before after old middle = subst (λ (items : List Shown). ShowsItems items before after old middle) shows.1 shows.2 in
-    (one.0 ∷ [], (one.0, one.1, refl), items_then [] (one.0 ∷ []) before after after old middle new first (items_on_pages (one.0 ∷ []) after middle new one.2))
+    (one.0 ∷ [], (one.1, refl), items_then [] (one.0 ∷ []) before after after old middle new first (items_on_pages (one.0 ∷ []) after middle new one.2))
 no_table (table ∷ tables) text before after old middle new none shows one = absurd (true≢false none)
 
 pub some_tables : (tables : List Dumped) (text : List ℕ) (before after : Option (List ℕ)) (old new : Sheet) → has_any tables ≡ true
-    → ShowsAll (AreTables tables) before after old new → ShowsAll (AreDumpedAs tables text) before after old new
+    → ShowsAll (AreTables false tables) before after old new → ShowsAll (AreDumpedAs false tables text) before after old new
 some_tables [] text before after old new some shows = absurd (true≢false (sym some))
 some_tables (table ∷ tables) text before after old new some shows = shows
+
+-- a stop at the tables of a text is one of its items
+pub dumped_begun : (tables : List Dumped) (text : List ℕ) (before after : Option (List ℕ)) (old : Sheet) → StopsIn (λ early. AreTables early tables) before after old
+    → StopsIn (λ early. AreDumpedAs early tables text) before after old
+dumped_begun [] text before after old begun =
+    (true, ([], tt, subst (λ (items : List Shown). ItemsBegun items before after old) begun.1.1 begun.1.2))
+dumped_begun (table ∷ tables) text before after old begun = begun

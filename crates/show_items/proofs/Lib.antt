@@ -1,3 +1,4 @@
+pub mod BeginningLemmas
 pub mod BlockLemmas
 pub mod DumpLemmas
 pub mod FileLemmas

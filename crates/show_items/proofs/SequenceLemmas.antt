@@ -1,16 +1,20 @@
 -- The first item, and those behind it.
-use Rattle.std.proofs.Common.{◌≡◌, ◌≢◌, ◌<◌, ℕ, ◌==◌, Bool, true, false, List, [], ◌∷◌, ◌++◌, Option, Some, inr, refl, sym, subst, length, take, drop, length-drop, true≢false, arith}
+use Rattle.std.proofs.Common.{◌≡◌, ◌≢◌, ◌∙◌, ◌<◌, ℕ, ◌==◌, Bool, true, false, List, [], ◌∷◌, ◌++◌, Option, Some, inl, inr, refl, sym, subst, length, take, drop, append-nil, length-drop, true≢false, arith}
 use Rattle.std.proofs.lemmas.Bool.Decides.{nat_tests}
 use Rattle.std.proofs.lemmas.List.{take_all}
+use Rattle.show_findings.specs.Places.{item_len}
+use Rattle.show_findings.specs.declared.items.Item.TheVariants.{Block, Record, Table}
+use Rattle.show_findings.specs.declared.items.Item.{Item}
 use Rattle.show_findings.specs.declared.kinds.FileKind.{FileKind}
 use Rattle.show_findings.specs.declared.kinds.FileKind.TheVariants.{Records, Tables, Blocks, Blank}
 use Rattle.show_findings.specs.Kinds.{kind_behind}
 use Rattle.show_items.specs.Items.{Shown, counted}
-use Rattle.show_items.specs.Judged.{ShowsAll, ShowsOne}
-use Rattle.show_items.specs.Sequences.{AreFirst, AreIf, AreItems, IsFirst, IsItemAs, behind_first, first_len, is_item, len_of}
+use Rattle.show_items.specs.Judged.{ShowsAll, ShowsOne, StopsAll, StopsIn, StopsOne}
+use Rattle.show_items.specs.Sequences.{AreFirst, AreIf, AreItems, IsFirst, IsItemAs, behind_first, first_len, is_item, kind_of_item, len_of}
 use Rattle.show_items.specs.Sheets.{ShowsItems}
 use Rattle.show_items.specs.Singles.{IsBlank, IsUnknown}
 use Rattle.show_items.specs.declared.sheet.Sheet.{Sheet}
+use Rattle.show_items.proofs.BeginningLemmas.{items_begun_then}
 use Rattle.show_items.proofs.SheetLemmas.{items_on_pages, items_then, no_items}
 
 -- what is no item is all that is left
@@ -21,27 +25,46 @@ no_item at kind bytes none = absurd (true≢false none)
 nothing_left : (bytes : List ℕ) (n : ℕ) → n ≡ length bytes → 0 < length (drop n bytes) → ⊥
 nothing_left bytes n all some = omega (arith, length-drop {A = ℕ} n bytes, all, some)
 
-first_and_more : (at : ℕ) (is : Bool) (bytes : List ℕ) (first more : List Shown) → is_item at (kind_behind bytes) ≡ is → 0 < length bytes
-    → AreIf is (IsFirst at bytes) first → AreItems (counted at (first_len bytes)) (behind_first bytes) more → AreItems at bytes (first ++ more)
-first_and_more at true bytes first more is some one rest =
-    subst (λ (items : List Shown). AreItems at bytes (items ++ more)) (sym one.2) (some, is, one.1, rest)
-first_and_more at false bytes first [] is some none rest =
-    subst (λ (items : List Shown). AreItems at bytes (items ++ [])) (sym none) (inr is)
-first_and_more at false bytes first (item ∷ more) is some none rest =
+first_and_more : (early : Bool) (at : ℕ) (is : Bool) (bytes : List ℕ) (first more : List Shown) → is_item at (kind_behind bytes) ≡ is → 0 < length bytes
+    → AreIf is (IsFirst at bytes) first → AreItems early (counted at (first_len bytes)) (behind_first bytes) more → AreItems early at bytes (first ++ more)
+first_and_more early at true bytes first more is some one rest =
+    subst (λ (items : List Shown). AreItems early at bytes (items ++ more)) (sym one.2) (some, is, one.1, rest)
+first_and_more early at false bytes first [] is some none rest =
+    subst (λ (items : List Shown). AreItems early at bytes (items ++ [])) (sym none) (inr (inr is))
+first_and_more early at false bytes first (item ∷ more) is some none rest =
     absurd (nothing_left bytes (first_len bytes) (no_item at (kind_behind bytes) bytes is) rest.0)
 
 -- what is shown of the first, and of those behind it, is what is shown of all
 pub all_shown : (at next : ℕ) (bytes rest : List ℕ) → next ≡ counted at (first_len bytes) → rest ≡ behind_first bytes → 0 < length bytes
     → (before middle after : Option (List ℕ)) (old between new : Sheet) → ShowsAll (AreFirst at bytes) before middle old between
-    → (more : List Shown) → AreItems next rest more → ShowsItems more middle after between new → ShowsAll (AreItems at bytes) before after old new
+    → (more : List Shown) → AreItems false next rest more → ShowsItems more middle after between new → ShowsAll (AreItems false at bytes) before after old new
 all_shown at next bytes rest is_next is_rest some before middle after old between new first more are shows =
-    let by_place : AreItems (counted at (first_len bytes)) rest more = subst (λ (n : ℕ). AreItems n rest more) is_next are in
-    let by_bytes : AreItems (counted at (first_len bytes)) (behind_first bytes) more =
-    subst (λ (xs : List ℕ). AreItems (counted at (first_len bytes)) xs more) is_rest by_place in (
+    let by_place : AreItems false (counted at (first_len bytes)) rest more = subst (λ (n : ℕ). AreItems false n rest more) is_next are in
+    let by_bytes : AreItems false (counted at (first_len bytes)) (behind_first bytes) more =
+    subst (λ (xs : List ℕ). AreItems false (counted at (first_len bytes)) xs more) is_rest by_place in (
       first.0 ++ more,
-      first_and_more at (is_item at (kind_behind bytes)) bytes first.0 more refl some first.1 by_bytes,
+      first_and_more false at (is_item at (kind_behind bytes)) bytes first.0 more refl some first.1 by_bytes,
       items_then first.0 more before middle after old between new first.2 shows,
     )
+
+-- a stop at the first, and one behind it, is a stop of all
+pub first_begun : (at : ℕ) (bytes : List ℕ) → 0 < length bytes → (before after : Option (List ℕ)) (old : Sheet) → StopsAll (AreFirst at bytes) before after old
+    → StopsIn (λ early. AreItems early at bytes) before after old
+first_begun at bytes some before after old first =
+    let are = first_and_more true at (is_item at (kind_behind bytes)) bytes first.0 [] refl some first.1 (inl tt) in
+    (true, (first.0, subst (λ (items : List Shown). AreItems true at bytes items) (append-nil first.0) are, first.2))
+
+pub next_begun : (at next : ℕ) (bytes rest : List ℕ) → next ≡ counted at (first_len bytes) → rest ≡ behind_first bytes → 0 < length bytes
+    → (before middle after : Option (List ℕ)) (old between : Sheet) → ShowsAll (AreFirst at bytes) before middle old between
+    → StopsIn (λ early. AreItems early next rest) middle after between → StopsIn (λ early. AreItems early at bytes) before after old
+next_begun at next bytes rest is_next is_rest some before middle after old between first more =
+    let early = more.0 in
+    let items = more.1.0 in
+    let by_place : AreItems early (counted at (first_len bytes)) rest items = subst (λ (n : ℕ). AreItems early n rest items) is_next more.1.1 in
+    let by_bytes : AreItems early (counted at (first_len bytes)) (behind_first bytes) items =
+    subst (λ (xs : List ℕ). AreItems early (counted at (first_len bytes)) xs items) is_rest by_place in
+    let are = first_and_more early at (is_item at (kind_behind bytes)) bytes first.0 items refl some first.1 by_bytes in
+    (early, (first.0 ++ items, are, items_begun_then first.0 items before middle after old between first.2 more.1.2))
 
 pub none_left : (bytes : List ℕ) → length bytes ≡ 0 → bytes ≡ []
 none_left [] none = refl
@@ -100,3 +123,27 @@ is_unknown at Tables bytes record_not table_not block_not blank_not item it = ab
 is_unknown at Blocks bytes record_not table_not block_not blank_not item it = absurd (block_not refl)
 is_unknown at Blank bytes record_not table_not block_not blank_not item it = absurd (blank_not refl)
 is_unknown at kind bytes record_not table_not block_not blank_not item it = subst (λ (xs : List ℕ). IsUnknown at xs item) (whole bytes) it
+
+-- a stop at a record, a table or a block is one at the first item
+one_begun : (is : Bool) (Is : Shown → Type 0) (before after : Option (List ℕ)) (old : Sheet) → is ≡ true → StopsOne Is before after old → StopsAll (AreIf is Is) before after old
+one_begun true Is before after old it begun = (begun.0 ∷ [], (begun.0, begun.1, refl), begun.2)
+one_begun false Is before after old it begun = absurd (true≢false (sym it))
+
+is_item_of : (at : ℕ) (item : Item) → is_item at (kind_of_item item) ≡ true
+is_item_of at Record = refl
+is_item_of at Table = refl
+is_item_of at Block = refl
+
+len_of_item : (item : Item) (bytes : List ℕ) → item_len item bytes ≡ len_of (kind_of_item item) bytes
+len_of_item Record bytes = refl
+len_of_item Table bytes = refl
+len_of_item Block bytes = refl
+
+pub first_of_kind : (at len : ℕ) (bytes : List ℕ) (item : Item) (before after : Option (List ℕ)) (old : Sheet) → kind_behind bytes ≡ kind_of_item item → len ≡ item_len item bytes
+    → StopsOne (IsItemAs (kind_of_item item) at (take len bytes)) before after old → StopsAll (AreFirst at bytes) before after old
+first_of_kind at len bytes item before after old same all begun =
+    let T : FileKind → Type 0 = λ (k : FileKind). StopsOne (IsItemAs k at (take (len_of k bytes) bytes)) before after old in
+    let by_len : T (kind_of_item item) =
+    subst (λ (n : ℕ). StopsOne (IsItemAs (kind_of_item item) at (take n bytes)) before after old) (all ∙ len_of_item item bytes) begun in
+    one_begun (is_item at (kind_behind bytes)) (IsFirst at bytes) before after old
+    (subst (λ (k : FileKind). is_item at k ≡ true) (sym same) (is_item_of at item)) (subst T (sym same) by_len)

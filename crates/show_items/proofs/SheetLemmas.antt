@@ -1,10 +1,10 @@
 -- What is added to a sheet and its pages, some after other.
 use Rattle.std.proofs.Common.{◌≡◌, ◌∙◌, ℕ, Bool, true, false, ◌||◌, List, [], ◌∷◌, ◌++◌, Option, Some, None, refl, sym, ap, subst, append_assoc, append-nil}
-use Rattle.std.specs.Io.KnownBytes.{Appends, append_known}
+use Rattle.std.specs.Io.KnownBytes.{Appends}
 use Rattle.field_lines.specs.Layouts.{Structure}
-use Rattle.show_findings.specs.declared.faults.Fault.{Fault}
+use Rattle.show_items.specs.Beginnings.{Grows}
 use Rattle.show_items.specs.Groups.{Group, Head, bytes_as, bytes_json, comma, fields_as, fields_json, groups_text, has_more, has_one_more, one_more}
-use Rattle.show_items.specs.Items.{Heading, Shown, bad_after, count_after, counted, end_text, heading_text, item_text, items_text}
+use Rattle.show_items.specs.Items.{Shown, bad_after, count_after, counted, end_text, heading_text, item_text, items_text}
 use Rattle.show_items.specs.Sheets.{AddsGroups, AddsText, BeginsItem, EndsItem, KeepsItem, ShowsItems, told}
 use Rattle.show_items.specs.declared.sheet.Form.{Form}
 use Rattle.show_items.specs.declared.sheet.Form.TheVariants.{Brief, Json}
@@ -13,18 +13,26 @@ use Rattle.show_items.specs.declared.sheet.Sheet.{Sheet}
 use Rattle.show_items.proofs.TextLemmas.{one_group}
 
 -- known bytes grow by one text and then by another
-appends_then : (a b c : Option (List ℕ)) (x y : List ℕ) → Appends a b x → Appends b c y → Appends a c (x ++ y)
+pub appends_then : (a b c : Option (List ℕ)) (x y : List ℕ) → Appends a b x → Appends b c y → Appends a c (x ++ y)
 appends_then None b c x y first then = tt
 appends_then (Some one) (Some two) (Some three) x y first then = then ∙ ap (λ (t : List ℕ). t ++ y) first ∙ append_assoc one x y
 appends_then (Some one) (Some two) None x y first then = absurd then
 appends_then (Some one) None c x y first then = absurd first
 
+-- known bytes grow, and grow again
+pub grows_then : (a b c : Option (List ℕ)) → Grows a b → Grows b c → Grows a c
+grows_then a b c first then = (first.0 ++ then.0, appends_then a b c first.0 then.0 first.1 then.1)
+
+pub grows_by_none : (a : Option (List ℕ)) → Grows a a
+grows_by_none None = ([], tt)
+grows_by_none (Some bytes) = ([], sym (append-nil bytes))
+
 -- the same text
-appends_same : (a b : Option (List ℕ)) (x y : List ℕ) → x ≡ y → Appends a b x → Appends a b y
+pub appends_same : (a b : Option (List ℕ)) (x y : List ℕ) → x ≡ y → Appends a b x → Appends a b y
 appends_same a b x y same appends = subst (λ (t : List ℕ). Appends a b t) same appends
 
 -- a text on the sheet is one behind what was written
-behind_written : (written : Option (List ℕ)) (old new : Sheet) (x : List ℕ) → new.out.items ≡ old.out.items ++ x → Appends (told written old) (told written new) x
+pub behind_written : (written : Option (List ℕ)) (old new : Sheet) (x : List ℕ) → new.out.items ≡ old.out.items ++ x → Appends (told written old) (told written new) x
 behind_written None old new x grows = tt
 behind_written (Some bytes) old new x grows = ap (λ (t : List ℕ). bytes ++ t) grows ∙ sym (append_assoc bytes old.out.items x)
 
@@ -53,7 +61,7 @@ texts_then x y old middle new first then = record {
 }
 
 -- groups
-groups_text_then : (manner : Manner) (has : Bool) (some more : List Group)
+pub groups_text_then : (manner : Manner) (has : Bool) (some more : List Group)
     → groups_text manner has some ++ groups_text manner (has_more manner.form has some) more ≡ groups_text manner has (some ++ more)
 groups_text_then manner has [] more = refl
 groups_text_then manner has (group ∷ some) more =
@@ -73,6 +81,7 @@ groups_then some more before middle after old between new first then =
     record {
       text = appends_same (told before old) (told after new) _ _ (groups_text_then old.manner old.has_groups some more)
           (appends_then (told before old) (told middle between) (told after new) _ _ first.text text);
+      grows = grows_then before middle after first.grows then.grows;
       more = then.more ∙ ap (λ (manner : Manner). has_more manner.form between.has_groups more) first.same.manner
           ∙ ap (λ (has : Bool). has_more old.manner.form has more) first.more ∙ has_more_then old.manner.form old.has_groups some more;
       same = kept old between new first.same then.same;
@@ -82,6 +91,7 @@ groups_then some more before middle after old between new first then =
 pub on_pages : (groups : List Group) (written : Option (List ℕ)) (old new : Sheet) → AddsGroups groups (Some []) (Some []) old new → AddsGroups groups written written old new
 on_pages groups written old new adds = record {
   text = behind_written written old new (groups_text old.manner old.has_groups groups) adds.text;
+  grows = grows_by_none written;
   more = adds.more;
   same = adds.same;
 }
@@ -89,6 +99,7 @@ on_pages groups written old new adds = record {
 pub no_groups : (written : Option (List ℕ)) (sheet : Sheet) → AddsGroups [] written written sheet sheet
 no_groups written sheet = record {
   text = behind_written written sheet sheet [] (sym (append-nil sheet.out.items));
+  grows = grows_by_none written;
   more = refl;
   same = kept_same sheet;
 }
@@ -110,6 +121,7 @@ pub brief_adds_nothing : (groups : List Group) (written : Option (List ℕ)) (sh
 brief_adds_nothing groups written sheet brief = record {
   text = behind_written written sheet sheet (groups_text sheet.manner sheet.has_groups groups)
       (sym (ap (λ (t : List ℕ). sheet.out.items ++ t) (brief_text sheet.manner sheet.has_groups groups brief) ∙ append-nil sheet.out.items));
+  grows = grows_by_none written;
   more = brief_more sheet.manner.form sheet.has_groups groups brief;
   same = kept_same sheet;
 }
@@ -131,6 +143,7 @@ pub json_group : (group : Group) (old begun new : Sheet) (text : List ℕ) → o
 json_group group old begun new text json same before has kept_before added has_still kept_after = record {
   text = json_text old.manner.form old.has_groups (group old.manner) old.out.items begun.out.items new.out.items json before
       (added ∙ ap (λ (t : List ℕ). begun.out.items ++ t) same);
+  grows = grows_by_none (Some []);
   more = json_more old.manner.form old.has_groups new.has_groups json (has_still ∙ has);
   same = kept old begun new kept_before kept_after;
 }
@@ -166,6 +179,7 @@ item_shown item before middle after old begun grouped ended new begins adds ends
       text = appends_then (told before old) (told middle ended) (told after new) (item_text old.manner old.path.now old.items item) []
           (appends_then (told before old) (told middle grouped) (told middle ended) (heading ++ groups) end
           (appends_then (told before old) (told before begun) (told middle grouped) heading groups first second) third) last;
+      grows = grows_then before middle after adds.grows turns.grows;
       count = turns.same.items ∙ ends.items ∙ ap (λ (n : ℕ). counted n 1) (adds.same.items ∙ begins.same.items);
       has_bad = turns.same.bad ∙ ends.has_bad ∙ ap (λ (b : Bool). item.bad || b) (adds.same.bad ∙ begins.same.bad);
       path = turns.same.path ∙ ends.path ∙ adds.same.path ∙ begins.same.path;
@@ -173,7 +187,7 @@ item_shown item before middle after old begun grouped ended new begins adds ends
     }
 
 -- items
-items_text_then : (manner : Manner) (path : List ℕ) (count : ℕ) (some more : List Shown)
+pub items_text_then : (manner : Manner) (path : List ℕ) (count : ℕ) (some more : List Shown)
     → items_text manner path count some ++ items_text manner path (count_after count some) more ≡ items_text manner path count (some ++ more)
 items_text_then manner path count [] more = refl
 items_text_then manner path count (item ∷ some) more =
@@ -198,6 +212,7 @@ items_then some more before middle after old between new first then =
     record {
       text = appends_same (told before old) (told after new) _ _ (items_text_then old.manner old.path.now old.items some more)
           (appends_then (told before old) (told middle between) (told after new) _ _ first.text text);
+      grows = grows_then before middle after first.grows then.grows;
       count = then.count ∙ ap (λ (n : ℕ). count_after n more) first.count ∙ count_then old.items some more;
       has_bad = then.has_bad ∙ ap (λ (b : Bool). bad_after b more) first.has_bad ∙ bad_then old.has_bad some more;
       path = then.path ∙ first.path;
@@ -211,6 +226,7 @@ one_and_more item more before middle after old between new first then = items_th
 pub no_items : (written : Option (List ℕ)) (sheet : Sheet) → ShowsItems [] written written sheet sheet
 no_items written sheet = record {
   text = behind_written written sheet sheet [] (sym (append-nil sheet.out.items));
+  grows = grows_by_none written;
   count = refl;
   has_bad = refl;
   path = refl;
@@ -221,6 +237,7 @@ no_items written sheet = record {
 pub items_on_pages : (items : List Shown) (written : Option (List ℕ)) (old new : Sheet) → ShowsItems items (Some []) (Some []) old new → ShowsItems items written written old new
 items_on_pages items written old new shows = record {
   text = behind_written written old new (items_text old.manner old.path.now old.items items) shows.text;
+  grows = grows_by_none written;
   count = shows.count;
   has_bad = shows.has_bad;
   path = shows.path;
@@ -233,6 +250,7 @@ pub shown_and_turned : (items : List Shown) (before middle after : Option (List 
 shown_and_turned items before middle after old between new shows turns = record {
   text = appends_same (told before old) (told after new) _ _ (append-nil (items_text old.manner old.path.now old.items items))
       (appends_then (told before old) (told middle between) (told after new) _ [] shows.text turns.text);
+  grows = grows_then before middle after shows.grows turns.grows;
   count = turns.same.items ∙ shows.count;
   has_bad = turns.same.bad ∙ shows.has_bad;
   path = turns.same.path ∙ shows.path;

@@ -6,9 +6,10 @@ use Rattle.hest_sources.specs.Layout.{length_by_type}
 use Rattle.hest_sources.specs.declared.tables.HestError.{HestError}
 use Rattle.show_findings.specs.Places.{HasInstruction, IsNoSource, IsSource, seen_number}
 use Rattle.show_items.specs.Groups.{Group}
-use Rattle.show_items.specs.Sheets.{AddsGroups}
+use Rattle.show_items.specs.Sheets.{AddsGroups, GroupsBegun}
 use Rattle.show_items.specs.Tables.{instruction_at, instruction_group, instruction_groups, source_and_more, source_group, source_groups, source_kind, source_length}
 use Rattle.show_items.specs.declared.sheet.Sheet.{Sheet}
+use Rattle.show_items.proofs.BeginningLemmas.{groups_begun_then}
 use Rattle.show_items.proofs.SheetLemmas.{groups_then, on_pages}
 
 -- a group on the sheet alone, and then those behind it
@@ -16,6 +17,11 @@ pub group_and_more : (group : Group) (more : List Group) (before after : Option 
     → AddsGroups (group ∷ []) (Some []) (Some []) old added → AddsGroups more before after added new → AddsGroups (group ∷ more) before after old new
 group_and_more group more before after old added new first rest =
     groups_then (group ∷ []) more before before after old added new (on_pages (group ∷ []) before old added first) rest
+
+pub group_and_begun : (group : Group) (more : List Group) (before after : Option (List ℕ)) (old added : Sheet)
+    → AddsGroups (group ∷ []) (Some []) (Some []) old added → GroupsBegun more before after added → GroupsBegun (group ∷ more) before after old
+group_and_begun group more before after old added first begun =
+    groups_begun_then (group ∷ []) more before before after old added (on_pages (group ∷ []) before old added first) begun
 
 -- the same where a page may be written between them
 pub group_turned_and_more : (group : Group) (more : List Group) (before middle after : Option (List ℕ)) (old added turned new : Sheet)

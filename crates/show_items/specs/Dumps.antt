@@ -4,6 +4,7 @@ use Rattle.std.specs.Str.{bytes_eq}
 use Rattle.base_model.specs.Bytes.{part}
 use Rattle.show_items.specs.Digits.{value_of}
 use Rattle.show_items.specs.Items.{Shown, counted}
+use Rattle.show_items.specs.Judged.{MayEnd}
 use Rattle.show_items.specs.Singles.{IsUnknown}
 use Rattle.show_items.specs.Tables.{IsTable}
 use Rattle.show_items.specs.declared.dumps.Dump.{Dump}
@@ -83,18 +84,19 @@ has_any [] = false
 has_any (table ∷ tables) = true
 
 -- each table is an item
-abbrev pub AreTables : List Dumped → List Shown → Type 0
-AreTables [] items = items ≡ []
-AreTables (table ∷ tables) [] = ⊥
-AreTables (table ∷ tables) (item ∷ items) = IsTable (Some table.0) table.1 item × AreTables tables items
+abbrev pub AreTables : (early : Bool) → List Dumped → List Shown → Type 0
+AreTables early [] items = items ≡ []
+AreTables early (table ∷ tables) [] = MayEnd early
+AreTables early (table ∷ tables) (item ∷ items) = IsTable (Some table.0) table.1 item × AreTables early tables items
 
 -- a text without a table is none of what is known
-abbrev pub AreDumpedAs : List Dumped → (text : List ℕ) → List Shown → Type 0
-AreDumpedAs [] text items = (item : Shown) × IsUnknown 0 text item × (items ≡ item ∷ [])
-AreDumpedAs (table ∷ tables) text items = AreTables (table ∷ tables) items
+abbrev pub AreDumpedAs : (early : Bool) → List Dumped → (text : List ℕ) → List Shown → Type 0
+AreDumpedAs early [] text [] = MayEnd early
+AreDumpedAs early [] text (item ∷ items) = IsUnknown 0 text item × (items ≡ [])
+AreDumpedAs early (table ∷ tables) text items = AreTables early (table ∷ tables) items
 
-abbrev pub AreDumped : List ℕ → List Shown → Type 0
-AreDumped text items = AreDumpedAs (tables_in text) text items
+abbrev pub AreDumped : (early : Bool) → List ℕ → List Shown → Type 0
+AreDumped early text items = AreDumpedAs early (tables_in text) text items
 
 -- the tables that are left of a text that is read so far
 abbrev pub tables_left : Dump → List Dumped

@@ -39,15 +39,15 @@ IsRecordIn geometry image slot item =
     (bytes : List ℕ) × IsRecordOf geometry.slot_size geometry.slots image slot bytes × IsRecord None bytes item
 
 -- the records that begin in so many slots, from one on
-abbrev pub AreRecordsFrom : Geometry → List ℕ → (slot left : ℕ) → List Shown → Type 0
-AreRecordsFrom geometry image slot left items =
-    AreFrom (is_first geometry image) (IsRecordIn geometry image) slot left items
+abbrev pub AreRecordsFrom : (early : Bool) → Geometry → List ℕ → (slot left : ℕ) → List Shown → Type 0
+AreRecordsFrom early geometry image slot left items =
+    AreFrom early (is_first geometry image) (IsRecordIn geometry image) slot left items
 
 -- the flash, and behind it its records in the order of the slots in which they begin
-abbrev pub AreImageItems : Geometry → List ℕ → List Shown → Type 0
-AreImageItems geometry image [] = ⊥
-AreImageItems geometry image (flash ∷ records) =
-    IsFlash image flash × AreRecordsFrom geometry image 0 geometry.slots records
+abbrev pub AreImageItems : (early : Bool) → Geometry → List ℕ → List Shown → Type 0
+AreImageItems early geometry image [] = ⊥
+AreImageItems early geometry image (flash ∷ records) =
+    IsFlash image flash × AreRecordsFrom early geometry image 0 geometry.slots records
 
 -- the header of a medium
 abbrev pub IsMediumHeader : List ℕ → Option Fault → Shown → Type 0
@@ -65,12 +65,12 @@ IsBadMedium medium error item =
     (fault : Fault) × (fault.at ≡ error_place error) × IsMediumHeader medium (Some fault) item
 
 -- the header, and behind it the items of the flash; the header alone where it tells no geometry
-abbrev pub AreMediumItemsBy : Result Geometry MediumError → List ℕ → List Shown → Type 0
-AreMediumItemsBy told medium [] = ⊥
-AreMediumItemsBy (Ok geometry) medium (header ∷ items) =
-    IsMediumHeader medium None header × AreImageItems geometry (drop geometry.sector medium) items
-AreMediumItemsBy (Err error) medium (header ∷ items) = IsBadMedium medium error header × (items ≡ [])
+abbrev pub AreMediumItemsBy : (early : Bool) → Result Geometry MediumError → List ℕ → List Shown → Type 0
+AreMediumItemsBy early told medium [] = ⊥
+AreMediumItemsBy early (Ok geometry) medium (header ∷ items) =
+    IsMediumHeader medium None header × AreImageItems early geometry (drop geometry.sector medium) items
+AreMediumItemsBy early (Err error) medium (header ∷ items) = IsBadMedium medium error header × (items ≡ [])
 
-abbrev pub AreMediumItems : List ℕ → List Shown → Type 0
-AreMediumItems medium items =
-    (told : Result Geometry MediumError) × TellsGeometry medium told × AreMediumItemsBy told medium items
+abbrev pub AreMediumItems : (early : Bool) → List ℕ → List Shown → Type 0
+AreMediumItems early medium items =
+    (told : Result Geometry MediumError) × TellsGeometry medium told × AreMediumItemsBy early told medium items

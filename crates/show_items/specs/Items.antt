@@ -1,5 +1,5 @@
 -- An item: what is written of one, and of several, one after another.
-use Rattle.std.specs.Prelude.{ℕ, ◌+◌, ◌-◌, ◌^◌, ◌==◌, min, Bool, true, false, ◌||◌, if◌then◌else◌, List, [], ◌∷◌, ◌++◌, length, codes, decimal, Option, Some, None, is_some, string_bytes}
+use Rattle.std.specs.Prelude.{ℕ, ◌+◌, ◌-◌, ◌^◌, ◌==◌, min, Bool, true, false, ◌||◌, if◌then◌else◌, List, [], ◌∷◌, ◌++◌, length, codes, decimal, Option, Some, None, string_bytes}
 use Rattle.show_findings.specs.declared.faults.Fault.{Fault}
 use Rattle.show_items.specs.Groups.{Group, groups_text}
 use Rattle.show_items.specs.Texts.{bold, colored, number_json, quoted, red}

@@ -8,6 +8,7 @@ use Rattle.show_findings.specs.Kinds.{kind_behind}
 use Rattle.show_findings.specs.Places.{item_len}
 use Rattle.show_items.specs.Blocks.{IsBlock}
 use Rattle.show_items.specs.Items.{Shown, counted}
+use Rattle.show_items.specs.Judged.{MayEnd}
 use Rattle.show_items.specs.Records.{IsRecord}
 use Rattle.show_items.specs.Singles.{IsBlank, IsUnknown}
 use Rattle.show_items.specs.Tables.{IsTable}
@@ -51,11 +52,11 @@ abbrev pub IsFirst : (at : ℕ) → List ℕ → Shown → Type 0
 IsFirst at bytes item = IsItemAs (kind_behind bytes) at (first_item bytes) item
 
 -- the bytes, which begin there in their file, are these items one after another
-abbrev pub AreItems : (at : ℕ) → List ℕ → List Shown → Type 0
-AreItems at bytes [] = (bytes ≡ []) ⊎ (is_item at (kind_behind bytes) ≡ false)
-AreItems at bytes (item ∷ items) =
+abbrev pub AreItems : (early : Bool) → (at : ℕ) → List ℕ → List Shown → Type 0
+AreItems early at bytes [] = MayEnd early ⊎ ((bytes ≡ []) ⊎ (is_item at (kind_behind bytes) ≡ false))
+AreItems early at bytes (item ∷ items) =
     (0 < length bytes) × (is_item at (kind_behind bytes) ≡ true) × IsFirst at bytes item
-    × AreItems (counted at (first_len bytes)) (behind_first bytes) items
+    × AreItems early (counted at (first_len bytes)) (behind_first bytes) items
 
 -- one item of this kind
 abbrev pub AreOne : (Is : Shown → Type 0) → List Shown → Type 0

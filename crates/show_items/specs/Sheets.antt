@@ -1,7 +1,8 @@
 -- A sheet, and the pages that it goes to: what is added to both. What was written and what stands on the sheet is one text.
-use Rattle.std.specs.Prelude.{◌≡◌, ℕ, Bool, false, ◌||◌, List, [], ◌∷◌, ◌++◌, Option}
+use Rattle.std.specs.Prelude.{◌≡◌, ℕ, Bool, false, ◌||◌, List, ◌++◌, Option}
 use Rattle.std.specs.Io.KnownBytes.{Appends, append_known}
 use Rattle.show_findings.specs.declared.faults.Fault.{Fault}
+use Rattle.show_items.specs.Beginnings.{Grows, IsBegun}
 use Rattle.show_items.specs.Groups.{Group, groups_text, has_more}
 use Rattle.show_items.specs.Items.{Heading, Shown, bad_after, count_after, counted, end_text, heading_text, items_text}
 use Rattle.show_items.specs.declared.sheet.Sheet.{Sheet}
@@ -32,8 +33,14 @@ pub record BeginsItem (heading : Heading) (old new : Sheet) : Type 0 where
 -- groups were added to it, while pages may have been written
 pub record AddsGroups (groups : List Group) (before after : Option (List ℕ)) (old new : Sheet) : Type 0 where
   pub text : Appends (told before old) (told after new) (groups_text old.manner old.has_groups groups)
+  pub grows : Grows before after
   pub more : new.has_groups ≡ has_more old.manner.form old.has_groups groups
   pub same : KeepsItem old new
+
+-- they had to be added, and a page could not be written
+abbrev pub GroupsBegun : (groups : List Group) → (before after : Option (List ℕ)) → (old : Sheet) → Type 0
+GroupsBegun groups before after old =
+    IsBegun before (append_known (told before old) (groups_text old.manner old.has_groups groups)) after
 
 -- it was ended
 pub record EndsItem (fault : Option Fault) (bad : Bool) (old new : Sheet) : Type 0 where
@@ -46,7 +53,13 @@ pub record EndsItem (fault : Option Fault) (bad : Bool) (old new : Sheet) : Type
 -- items were shown, one after another, while pages may have been written
 pub record ShowsItems (items : List Shown) (before after : Option (List ℕ)) (old new : Sheet) : Type 0 where
   pub text : Appends (told before old) (told after new) (items_text old.manner old.path.now old.items items)
+  pub grows : Grows before after
   pub count : new.items ≡ count_after old.items items
   pub has_bad : new.has_bad ≡ bad_after old.has_bad items
   pub path : new.path ≡ old.path
   pub manner : new.manner ≡ old.manner
+
+-- they had to be shown, and a page could not be written
+abbrev pub ItemsBegun : (items : List Shown) → (before after : Option (List ℕ)) → (old : Sheet) → Type 0
+ItemsBegun items before after old =
+    IsBegun before (append_known (told before old) (items_text old.manner old.path.now old.items items)) after

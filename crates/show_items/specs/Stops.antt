@@ -1,5 +1,5 @@
 -- When no more is shown: where there is no memory, and where the pages could not be written.
-use Rattle.std.specs.Prelude.{◌≡◌, ◌≢◌, ℕ, Option, Some, Result, MatchResult, IfErr}
+use Rattle.std.specs.Prelude.{◌≡◌, ℕ, Option, Some, Result, MatchResult}
 use Rattle.base_model.specs.Faults.{Rose}
 use Rattle.show_items.specs.declared.pages.Stop.{Stop}
 use Rattle.show_items.specs.declared.pages.Stop.TheVariants.{Memory}

@@ -36,22 +36,23 @@ abbrev pub IsStored : List ℕ → ℕ → Shown → Type 0
 IsStored bytes place item = IsRecord (Some (place * place_size bytes)) (record_in (at_place bytes place)) item
 
 -- the records of so many places, from one on: of each whose place has an identifier
-abbrev pub AreStoredFrom : List ℕ → (place left : ℕ) → List Shown → Type 0
-AreStoredFrom bytes place left items = AreFrom (has_identifier bytes) (IsStored bytes) place left items
+abbrev pub AreStoredFrom : (early : Bool) → List ℕ → (place left : ℕ) → List Shown → Type 0
+AreStoredFrom early bytes place left items = AreFrom early (has_identifier bytes) (IsStored bytes) place left items
 
-abbrev pub AreStored : List ℕ → List Shown → Type 0
-AreStored bytes items = AreStoredFrom bytes (first_place bytes) (end_of_places bytes - first_place bytes) items
+abbrev pub AreStored : (early : Bool) → List ℕ → List Shown → Type 0
+AreStored early bytes items =
+    AreStoredFrom early bytes (first_place bytes) (end_of_places bytes - first_place bytes) items
 
 -- where the header tells no size of a place, there are none
-abbrev pub AreStoredIf : (has_size : Bool) → List ℕ → List Shown → Type 0
-AreStoredIf false bytes items = items ≡ []
-AreStoredIf true bytes items = AreStored bytes items
+abbrev pub AreStoredIf : (early has_size : Bool) → List ℕ → List Shown → Type 0
+AreStoredIf early false bytes items = items ≡ []
+AreStoredIf early true bytes items = AreStored early bytes items
 
 abbrev pub IsStorageHeader : List ℕ → Shown → Type 0
 IsStorageHeader bytes item = IsHeader (codes "qemu") qemu_structure (part bytes 0 24) bytes None item
 
 -- the header, and behind it the records
-abbrev pub AreStorageItems : List ℕ → List Shown → Type 0
-AreStorageItems bytes [] = ⊥
-AreStorageItems bytes (header ∷ records) =
-    IsStorageHeader bytes header × AreStoredIf (nat_lt 0 (place_size bytes)) bytes records
+abbrev pub AreStorageItems : (early : Bool) → List ℕ → List Shown → Type 0
+AreStorageItems early bytes [] = ⊥
+AreStorageItems early bytes (header ∷ records) =
+    IsStorageHeader bytes header × AreStoredIf early (nat_lt 0 (place_size bytes)) bytes records

@@ -2,11 +2,12 @@
 ghost use Rattle.std.specs.Prelude.{◌<◌, ◌≤◌, ◌^◌, ◌+◌, [], ◌∷◌, length, Some, codes, OnOk};
 ghost use Rattle.base_model.specs.Bytes.{part};
 ghost use Rattle.show_findings.specs.Places.{seen_number};
+ghost use Rattle.show_items.specs.Beginnings.{IfStopped};
 ghost use Rattle.show_items.specs.Blocks.{IsBlock, block_groups, entry_groups, entry_structure, head_group, raw_groups, raw_of};
 ghost use Rattle.show_items.specs.Groups.{fields_group, typed};
-ghost use Rattle.show_items.specs.Judged.{ShowsOne};
+ghost use Rattle.show_items.specs.Judged.{ShowsOne, StopsOne};
 ghost use Rattle.show_items.specs.Records.{section_group};
-ghost use Rattle.show_items.specs.Sheets.{AddsGroups};
+ghost use Rattle.show_items.specs.Sheets.{AddsGroups, GroupsBegun};
 ghost use Rattle.show_items.specs.Stops.{HasStop};
 
 use crate::faults::fault_in;
@@ -33,6 +34,8 @@ pub(crate) fn show_block<P: Pages>(
     ensures shown { OnOk result (ShowsOne (IsBlock at bytes.now) (P.written pages.old) (P.written pages.new)
         sheet.old sheet.new) }
     ensures cause { HasStop (P.failures pages.old) (P.failures pages.new) result }
+    ensures stopped { IfStopped result (StopsOne (IsBlock at bytes.now)
+        (P.written pages.old) (P.written pages.new) sheet.old) }
 {
     let item = Item {
         kind: "block",
@@ -41,9 +44,9 @@ pub(crate) fn show_block<P: Pages>(
     };
     let mut sentence = String::new(sheet.alloc());
     add_block(&mut sentence, bytes)?;
+    let fault = fault_in(sheet, Decoded::Block, bytes)?;
     sheet.begin(&item, sentence.as_str())?;
     add_groups(sheet, pages, bytes)?;
-    let fault = fault_in(sheet, Decoded::Block, bytes)?;
     sheet.end(&fault)?;
     sheet.turn(pages)
 }
@@ -52,6 +55,8 @@ fn add_groups<P: Pages>(sheet: &mut Sheet<'_>, pages: &mut P, bytes: &[u8]) -> R
     ensures groups { OnOk result (AddsGroups (block_groups bytes.now) (P.written pages.old) (P.written pages.new)
         sheet.old sheet.new) }
     ensures cause { HasStop (P.failures pages.old) (P.failures pages.new) result }
+    ensures stopped { IfStopped result (GroupsBegun (block_groups bytes.now)
+        (P.written pages.old) (P.written pages.new) sheet.old) }
 {
     if sheet.form() == Form::Brief {
         return Ok(());
@@ -78,6 +83,8 @@ fn add_entries<P: Pages>(sheet: &mut Sheet<'_>, pages: &mut P, bytes: &[u8]) -> 
     ensures groups { OnOk result (AddsGroups (entry_groups bytes.now (length bytes.now) 0 20)
         (P.written pages.old) (P.written pages.new) sheet.old sheet.new) }
     ensures cause { HasStop (P.failures pages.old) (P.failures pages.new) result }
+    ensures stopped { IfStopped result (GroupsBegun (entry_groups bytes.now (length bytes.now) 0 20)
+        (P.written pages.old) (P.written pages.new) sheet.old) }
 {
     let mut at = HEADER;
     let mut index: u64 = 0;

@@ -1,8 +1,9 @@
 // The text of acpidump: for each table a line with its signature and its address, and lines of up to 16 bytes in digits.
-ghost use Rattle.std.specs.Prelude.{◌≡◌, ◌<◌, ◌≤◌, ◌+◌, ◌++◌, List, length, take, Some, None, IfOk, IfSome, MatchOption, OnOk};
+ghost use Rattle.std.specs.Prelude.{◌≡◌, ◌<◌, ◌≤◌, ◌+◌, ◌++◌, List, length, take, Some, None, IfOk, IfSome, MatchOption, OnOk, true, false};
+ghost use Rattle.show_items.specs.Beginnings.{IfStopped};
 ghost use Rattle.show_items.specs.Digits.{value_of};
-ghost use Rattle.show_items.specs.Dumps.{AreDumped, AreTables, Dumped, EndsTable, ReadsLine, TakesLine, behind_colon, behind_line, first_pair, has_any, is_title, line_bytes, line_len, pairs, tables_in, whole};
-ghost use Rattle.show_items.specs.Judged.{ShowsAll};
+ghost use Rattle.show_items.specs.Dumps.{AreDumped, AreTables, Dumped, EndsTable, ReadsLine, TakesLine, behind_colon, behind_line, first_pair, has_any, is_title, line_bytes, line_len, pairs, tables_in, tables_left, whole};
+ghost use Rattle.show_items.specs.Judged.{ShowsAll, StopsAll, StopsIn};
 ghost use Rattle.show_items.specs.Stops.{HasStop};
 
 use crate::pages::{Pages, Stop};
@@ -18,9 +19,11 @@ pub(crate) fn show_dump<P: Pages>(
     pages: &mut P,
     text: &[u8],
 ) -> Result<(), Stop>
-    ensures shown { OnOk result (ShowsAll (AreDumped text.now) (P.written pages.old) (P.written pages.new)
+    ensures shown { OnOk result (ShowsAll (AreDumped false text.now) (P.written pages.old) (P.written pages.new)
         sheet.old sheet.new) }
     ensures cause { HasStop (P.failures pages.old) (P.failures pages.new) result }
+    ensures stopped { IfStopped result (StopsIn (λ early. AreDumped early text.now)
+        (P.written pages.old) (P.written pages.new) sheet.old) }
 {
     if show_tables(sheet, pages, text)? {
         return Ok(());
@@ -30,10 +33,12 @@ pub(crate) fn show_dump<P: Pages>(
 
 // Shows the tables of a text, and says whether there is one.
 fn show_tables<P: Pages>(sheet: &mut Sheet<'_>, pages: &mut P, text: &[u8]) -> Result<bool, Stop>
-    ensures shown { OnOk result (ShowsAll (AreTables (tables_in text.now)) (P.written pages.old) (P.written pages.new)
+    ensures shown { OnOk result (ShowsAll (AreTables false (tables_in text.now)) (P.written pages.old) (P.written pages.new)
         sheet.old sheet.new) }
     ensures any { IfOk result (λ any. any ≡ has_any (tables_in text.now)) }
     ensures cause { HasStop (P.failures pages.old) (P.failures pages.new) result }
+    ensures stopped { IfStopped result (StopsIn (λ early. AreTables early (tables_in text.now))
+        (P.written pages.old) (P.written pages.new) sheet.old) }
 {
     let mut dump = Dump {
         rest: text,
@@ -65,8 +70,10 @@ impl Dump<'_> {
         requires { 0 < length self.old.rest.now }
         ensures shorter { OnOk result (length self.new.rest.now < length self.old.rest.now) }
         ensures shown { OnOk result ((ended : List Dumped) × TakesLine self.old self.new ended
-            × ShowsAll (AreTables ended) (P.written pages.old) (P.written pages.new) sheet.old sheet.new) }
+            × ShowsAll (AreTables false ended) (P.written pages.old) (P.written pages.new) sheet.old sheet.new) }
         ensures cause { HasStop (P.failures pages.old) (P.failures pages.new) result }
+        ensures stopped { IfStopped result (StopsIn (λ early. AreTables early (tables_left self.old))
+            (P.written pages.old) (P.written pages.new) sheet.old) }
     {
         let line = first_line(self.rest);
         self.read_line(line, sheet, pages)?;
@@ -83,8 +90,10 @@ impl Dump<'_> {
         pages: &mut P,
     ) -> Result<(), Stop>
         ensures shown { OnOk result ((ended : List Dumped) × ReadsLine line.now self.old self.new ended
-            × ShowsAll (AreTables ended) (P.written pages.old) (P.written pages.new) sheet.old sheet.new) }
+            × ShowsAll (AreTables false ended) (P.written pages.old) (P.written pages.new) sheet.old sheet.new) }
         ensures cause { HasStop (P.failures pages.old) (P.failures pages.new) result }
+        ensures stopped { IfStopped result ((is_title line.now ≡ true)
+            × StopsAll (AreTables false (whole self.old.begin self.old.table.items)) (P.written pages.old) (P.written pages.new) sheet.old) }
     {
         if !is_title(line) {
             return Ok(add_line(&mut self.table, line)?);
@@ -97,9 +106,11 @@ impl Dump<'_> {
     // Shows the table whose bytes were read, if there are some.
     fn end_table<P: Pages>(&mut self, sheet: &mut Sheet<'_>, pages: &mut P) -> Result<(), Stop>
         ensures ended { OnOk result (EndsTable self.old self.new) }
-        ensures shown { OnOk result (ShowsAll (AreTables (whole self.old.begin self.old.table.items)) (P.written pages.old)
+        ensures shown { OnOk result (ShowsAll (AreTables false (whole self.old.begin self.old.table.items)) (P.written pages.old)
             (P.written pages.new) sheet.old sheet.new) }
         ensures cause { HasStop (P.failures pages.old) (P.failures pages.new) result }
+        ensures stopped { IfStopped result (StopsAll (AreTables false (whole self.old.begin self.old.table.items))
+            (P.written pages.old) (P.written pages.new) sheet.old) }
     {
         if self.table.is_empty() {
             return Ok(());

@@ -1,8 +1,9 @@
 // A file, item by item.
-ghost use Rattle.std.specs.Prelude.{◌≡◌, [], OnOk};
-ghost use Rattle.show_items.specs.Files.{AreItemsOf, ShowsFile};
+ghost use Rattle.std.specs.Prelude.{◌≡◌, [], OnOk, false};
+ghost use Rattle.show_items.specs.Beginnings.{IfStopped};
+ghost use Rattle.show_items.specs.Files.{AreItemsOf, ShowsFile, StopsFile};
 ghost use Rattle.show_items.specs.Images.{IsSized};
-ghost use Rattle.show_items.specs.Judged.{ShowsAll};
+ghost use Rattle.show_items.specs.Judged.{ShowsAll, StopsIn};
 ghost use Rattle.show_items.specs.Stops.{HasStop};
 
 use crate::dumps::show_dump;
@@ -26,6 +27,8 @@ pub fn show_file<P: Pages>(
         (P.written pages.old) (P.written pages.new) sheet.old sheet.new) }
     ensures written { OnOk result (sheet.new.out.items ≡ []) }
     ensures cause { HasStop (P.failures pages.old) (P.failures pages.new) result }
+    ensures stopped { IfStopped result (StopsFile name.now bytes.now
+        (P.written pages.old) (P.written pages.new) sheet.old) }
 {
     show_kind(sheet, pages, kind_of(name, bytes), bytes)?;
     sheet.finish(pages)
@@ -39,9 +42,11 @@ fn show_kind<P: Pages>(
     bytes: &[u8],
 ) -> Result<(), Stop>
     requires { IsSized kind bytes.now }
-    ensures shown { OnOk result (ShowsAll (AreItemsOf kind bytes.now)
+    ensures shown { OnOk result (ShowsAll (AreItemsOf false kind bytes.now)
         (P.written pages.old) (P.written pages.new) sheet.old sheet.new) }
     ensures cause { HasStop (P.failures pages.old) (P.failures pages.new) result }
+    ensures stopped { IfStopped result (StopsIn (λ early. AreItemsOf early kind bytes.now)
+        (P.written pages.old) (P.written pages.new) sheet.old) }
 {
     match kind {
         FileKind::Dump => show_dump(sheet, pages, bytes)?,

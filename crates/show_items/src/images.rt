@@ -1,9 +1,10 @@
 // The flash of a record store: its records in slots.
-ghost use Rattle.std.specs.Prelude.{◌≡◌, ◌<◌, [], length, OnOk, Some};
+ghost use Rattle.std.specs.Prelude.{◌≡◌, ◌<◌, [], length, OnOk, Some, false};
 ghost use Rattle.image_survey.specs.Shown.{AreShown};
+ghost use Rattle.show_items.specs.Beginnings.{IfStopped};
 ghost use Rattle.show_items.specs.Images.{AreImageItems, AreRecordsFrom, HasSize, IsFlash, IsRecordIn, is_first};
-ghost use Rattle.show_items.specs.Judged.{ShowsAll, ShowsOne};
-ghost use Rattle.show_items.specs.Places.{ShowsIf};
+ghost use Rattle.show_items.specs.Judged.{ShowsAll, ShowsOne, StopsIn};
+ghost use Rattle.show_items.specs.Places.{ShowsIf, StopsIf};
 ghost use Rattle.show_items.specs.Stops.{HasStop};
 
 use crate::pages::{Pages, Stop};
@@ -21,9 +22,11 @@ pub(crate) fn show_image<P: Pages>(
     image: &[u8],
 ) -> Result<(), Stop>
     requires { HasSize geometry.now image.now }
-    ensures shown { OnOk result (ShowsAll (AreImageItems geometry.now image.now)
+    ensures shown { OnOk result (ShowsAll (AreImageItems false geometry.now image.now)
         (P.written pages.old) (P.written pages.new) sheet.old sheet.new) }
     ensures cause { HasStop (P.failures pages.old) (P.failures pages.new) result }
+    ensures stopped { IfStopped result (StopsIn (λ early. AreImageItems early geometry.now image.now)
+        (P.written pages.old) (P.written pages.new) sheet.old) }
 {
     let views = survey_slots(sheet.alloc(), image, geometry)?;
     show_flash(sheet, image, geometry, &views)?;
@@ -73,9 +76,11 @@ fn show_records<P: Pages>(
     requires sized { HasSize geometry.now image.now }
     requires all { length views.now ≡ geometry.now.slots }
     requires viewed { AreShown geometry.now.slot_size geometry.now.slots image.now views.now }
-    ensures shown { OnOk result (ShowsAll (AreRecordsFrom geometry.now image.now 0 geometry.now.slots)
+    ensures shown { OnOk result (ShowsAll (AreRecordsFrom false geometry.now image.now 0 geometry.now.slots)
         (P.written pages.old) (P.written pages.new) sheet.old sheet.new) }
     ensures cause { HasStop (P.failures pages.old) (P.failures pages.new) result }
+    ensures stopped { IfStopped result (StopsIn (λ early. AreRecordsFrom early geometry.now image.now 0 geometry.now.slots)
+        (P.written pages.old) (P.written pages.new) sheet.old) }
 {
     for slot in 0..geometry.slots as u32 {
         show_slot(sheet, pages, image, geometry, views, slot)?;
@@ -99,6 +104,8 @@ fn show_slot<P: Pages>(
     ensures shown { OnOk result (ShowsIf (is_first geometry.now image.now slot) (IsRecordIn geometry.now image.now slot)
         (P.written pages.old) (P.written pages.new) sheet.old sheet.new) }
     ensures cause { HasStop (P.failures pages.old) (P.failures pages.new) result }
+    ensures stopped { IfStopped result (StopsIf (is_first geometry.now image.now slot) (IsRecordIn geometry.now image.now slot)
+        (P.written pages.old) (P.written pages.new) sheet.old) }
 {
     match record_at(sheet.alloc(), image, geometry, views, slot)? {
         Some(bytes) => show_record(sheet, pages, None, &bytes),

@@ -1,8 +1,9 @@
 // A medium of the library: its header, and the flash behind it.
-ghost use Rattle.std.specs.Prelude.{◌≡◌, [], drop, IfOk, OnOk, Some, Ok};
+ghost use Rattle.std.specs.Prelude.{◌≡◌, [], drop, IfOk, OnOk, Some, Ok, false};
 ghost use Rattle.image_survey.specs.Headers.{IsMedium};
+ghost use Rattle.show_items.specs.Beginnings.{IfStopped};
 ghost use Rattle.show_items.specs.Images.{AreMediumItems, AreMediumItemsBy, HasSize, IsBadMedium, error_place};
-ghost use Rattle.show_items.specs.Judged.{ShowsAll, ShowsOne};
+ghost use Rattle.show_items.specs.Judged.{ShowsAll, ShowsOne, StopsIn};
 ghost use Rattle.show_items.specs.Stops.{HasStop};
 
 use crate::headers::{medium_header, show_header};
@@ -23,9 +24,11 @@ pub(crate) fn show_medium<P: Pages>(
     pages: &mut P,
     bytes: &[u8],
 ) -> Result<(), Stop>
-    ensures shown { OnOk result (ShowsAll (AreMediumItems bytes.now)
+    ensures shown { OnOk result (ShowsAll (AreMediumItems false bytes.now)
         (P.written pages.old) (P.written pages.new) sheet.old sheet.new) }
     ensures cause { HasStop (P.failures pages.old) (P.failures pages.new) result }
+    ensures stopped { IfStopped result (StopsIn (λ early. AreMediumItems early bytes.now)
+        (P.written pages.old) (P.written pages.new) sheet.old) }
 {
     match geometry_of(bytes) {
         Ok(geometry) => show_whole(sheet, pages, bytes, &geometry),
@@ -44,9 +47,11 @@ fn show_whole<P: Pages>(
     geometry: &Geometry,
 ) -> Result<(), Stop>
     requires { IsMedium geometry.now bytes.now }
-    ensures shown { OnOk result (ShowsAll (AreMediumItemsBy (Ok geometry.now) bytes.now)
+    ensures shown { OnOk result (ShowsAll (AreMediumItemsBy false (Ok geometry.now) bytes.now)
         (P.written pages.old) (P.written pages.new) sheet.old sheet.new) }
     ensures cause { HasStop (P.failures pages.old) (P.failures pages.new) result }
+    ensures stopped { IfStopped result (StopsIn (λ early. AreMediumItemsBy early (Ok geometry.now) bytes.now)
+        (P.written pages.old) (P.written pages.new) sheet.old) }
 {
     show_header(
         sheet,

@@ -1,6 +1,7 @@
 // Where what is shown goes to.
-ghost use Rattle.std.specs.Prelude.{◌≡◌, ◌≢◌, ℕ, List, Option, IfErr, OnOk};
-ghost use Rattle.std.specs.Io.KnownBytes.{Appends};
+ghost use Rattle.std.specs.Prelude.{◌≡◌, ◌≢◌, ℕ, List, Option, IfErr, OnErr, OnOk};
+ghost use Rattle.std.specs.Io.KnownBytes.{Appends, append_known};
+ghost use Rattle.show_items.specs.Beginnings.{IsBegun};
 ghost use Rattle.show_items.specs.Stops.{Failures, HasStop};
 ghost use Rattle.show_items.specs.declared.pages.Stop.TheVariants.{Memory as WantOfMemory};
 
@@ -45,5 +46,7 @@ pub trait Pages {
     fn write(&mut self, page: &[u8]) -> Result<(), Stop>
         ensures bytes { OnOk result (Appends (written self.old) (written self.new) page.now) }
         ensures cause { HasStop (failures self.old) (failures self.new) result }
-        ensures reason { IfErr result (λ stop. stop ≢ WantOfMemory) };
+        ensures reason { IfErr result (λ stop. stop ≢ WantOfMemory) }
+        ensures stopped { OnErr result (IsBegun (written self.old) (append_known (written self.old) page.now)
+            (written self.new)) };
 }

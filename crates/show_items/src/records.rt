@@ -2,10 +2,11 @@
 ghost use Rattle.std.specs.Prelude.{◌<◌, ◌≤◌, ◌^◌, ◌+◌, [], ◌∷◌, length, Some, codes, OnOk};
 ghost use Rattle.base_model.specs.Bytes.{part};
 ghost use Rattle.show_findings.specs.Places.{seen_number};
+ghost use Rattle.show_items.specs.Beginnings.{IfStopped};
 ghost use Rattle.show_items.specs.Groups.{fields_group, numbered};
-ghost use Rattle.show_items.specs.Judged.{ShowsOne};
+ghost use Rattle.show_items.specs.Judged.{ShowsOne, StopsOne};
 ghost use Rattle.show_items.specs.Records.{IsRecord, header_group, record_groups, room_of, section_group, section_groups};
-ghost use Rattle.show_items.specs.Sheets.{AddsGroups};
+ghost use Rattle.show_items.specs.Sheets.{AddsGroups, GroupsBegun};
 ghost use Rattle.show_items.specs.Stops.{HasStop};
 ghost use Rattle.standard_fields.specs.Records.{section_descriptor};
 
@@ -35,6 +36,8 @@ pub(crate) fn show_record<P: Pages>(
     ensures shown { OnOk result (ShowsOne (IsRecord at bytes.now) (P.written pages.old) (P.written pages.new)
         sheet.old sheet.new) }
     ensures cause { HasStop (P.failures pages.old) (P.failures pages.new) result }
+    ensures stopped { IfStopped result (StopsOne (IsRecord at bytes.now)
+        (P.written pages.old) (P.written pages.new) sheet.old) }
 {
     let item = Item {
         kind: "record",
@@ -43,9 +46,9 @@ pub(crate) fn show_record<P: Pages>(
     };
     let mut sentence = String::new(sheet.alloc());
     add_record(&mut sentence, bytes)?;
+    let fault = fault_in(sheet, Decoded::Record, bytes)?;
     sheet.begin(&item, sentence.as_str())?;
     add_groups(sheet, pages, bytes)?;
-    let fault = fault_in(sheet, Decoded::Record, bytes)?;
     sheet.end(&fault)?;
     sheet.turn(pages)
 }
@@ -54,6 +57,8 @@ fn add_groups<P: Pages>(sheet: &mut Sheet<'_>, pages: &mut P, bytes: &[u8]) -> R
     ensures groups { OnOk result (AddsGroups (record_groups bytes.now) (P.written pages.old) (P.written pages.new)
         sheet.old sheet.new) }
     ensures cause { HasStop (P.failures pages.old) (P.failures pages.new) result }
+    ensures stopped { IfStopped result (GroupsBegun (record_groups bytes.now)
+        (P.written pages.old) (P.written pages.new) sheet.old) }
 {
     if sheet.form() == Form::Brief {
         return Ok(());
@@ -80,6 +85,9 @@ fn add_sections<P: Pages>(sheet: &mut Sheet<'_>, pages: &mut P, bytes: &[u8]) ->
         (section_groups bytes.now (seen_number bytes.now 10 2) 0 (room_of bytes.now))
         (P.written pages.old) (P.written pages.new) sheet.old sheet.new) }
     ensures cause { HasStop (P.failures pages.old) (P.failures pages.new) result }
+    ensures stopped { IfStopped result (GroupsBegun
+        (section_groups bytes.now (seen_number bytes.now 10 2) 0 (room_of bytes.now))
+        (P.written pages.old) (P.written pages.new) sheet.old) }
 {
     let mut room = bytes.len().saturating_mul(TIMES);
     for index in 0..seen_u16(bytes, 10) {

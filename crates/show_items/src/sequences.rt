@@ -1,6 +1,7 @@
 // Items one after another.
-ghost use Rattle.std.specs.Prelude.{◌≡◌, ◌≤◌, ◌<◌, length, drop, IfOk, OnOk};
-ghost use Rattle.show_items.specs.Judged.{ShowsAll, ShowsOne};
+ghost use Rattle.std.specs.Prelude.{◌≡◌, ◌≤◌, ◌<◌, length, drop, IfOk, OnOk, false};
+ghost use Rattle.show_items.specs.Beginnings.{IfStopped};
+ghost use Rattle.show_items.specs.Judged.{ShowsAll, ShowsOne, StopsAll, StopsIn, StopsOne};
 ghost use Rattle.show_items.specs.Sequences.{AreFirst, AreItems, IsItemAs, first_len, kind_of_item};
 ghost use Rattle.show_items.specs.Stops.{HasStop};
 
@@ -18,9 +19,11 @@ pub(crate) fn show_sequence<P: Pages>(
     pages: &mut P,
     bytes: &[u8],
 ) -> Result<(), Stop>
-    ensures shown { OnOk result (ShowsAll (AreItems 0 bytes.now)
+    ensures shown { OnOk result (ShowsAll (AreItems false 0 bytes.now)
         (P.written pages.old) (P.written pages.new) sheet.old sheet.new) }
     ensures cause { HasStop (P.failures pages.old) (P.failures pages.new) result }
+    ensures stopped { IfStopped result (StopsIn (λ early. AreItems early 0 bytes.now)
+        (P.written pages.old) (P.written pages.new) sheet.old) }
 {
     let mut rest = bytes;
     let mut at: u64 = 0;
@@ -51,6 +54,8 @@ fn show_next<P: Pages>(
     ensures shown { OnOk result (ShowsAll (AreFirst at rest.now)
         (P.written pages.old) (P.written pages.new) sheet.old sheet.new) }
     ensures cause { HasStop (P.failures pages.old) (P.failures pages.new) result }
+    ensures stopped { IfStopped result (StopsAll (AreFirst at rest.now)
+        (P.written pages.old) (P.written pages.new) sheet.old) }
     ensures exact { IfOk result (λ len. len ≡ first_len rest.now) }
     ensures some { IfOk result (λ len. 0 < len) }
     ensures within { IfOk result (λ len. len ≤ length rest.now) }
@@ -84,6 +89,8 @@ fn show_item<P: Pages>(
     ensures shown { OnOk result (ShowsOne (IsItemAs (kind_of_item item) at bytes.now)
         (P.written pages.old) (P.written pages.new) sheet.old sheet.new) }
     ensures cause { HasStop (P.failures pages.old) (P.failures pages.new) result }
+    ensures stopped { IfStopped result (StopsOne (IsItemAs (kind_of_item item) at bytes.now)
+        (P.written pages.old) (P.written pages.new) sheet.old) }
 {
     match item {
         Item::Record => show_record(sheet, pages, Some(at), bytes),

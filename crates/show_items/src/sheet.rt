@@ -1,8 +1,8 @@
 // The sheet on which the items of a file are shown.
-ghost use Rattle.std.specs.Prelude.{◌≡◌, ◌++◌, [], true, false, nat_lt, is_some, length, codes, None, OnOk};
+ghost use Rattle.std.specs.Prelude.{◌≡◌, ◌++◌, [], true, false, nat_lt, is_some, length, codes, None, OnErr, OnOk};
 ghost use Rattle.show_items.specs.Groups.{comma};
 ghost use Rattle.show_items.specs.Items.{bad_json, end_as, fault_json, fault_text, extent_json, file_json, gap, heading_json, heading_of, kind_json, path_before};
-ghost use Rattle.show_items.specs.Sheets.{AddsGroups, AddsText, BeginsItem, EndsItem, KeepsItem};
+ghost use Rattle.show_items.specs.Sheets.{AddsGroups, AddsText, BeginsItem, EndsItem, GroupsBegun, KeepsItem};
 ghost use Rattle.show_items.specs.Stops.{HasStop};
 ghost use Rattle.show_items.specs.Texts.{bold, colored};
 
@@ -270,6 +270,7 @@ impl<'a> Sheet<'a> {
     pub(crate) fn turn<P: Pages>(&mut self, pages: &mut P) -> Result<(), Stop>
         ensures turned { OnOk result (AddsGroups [] (P.written pages.old) (P.written pages.new) self.old self.new) }
         ensures cause { HasStop (P.failures pages.old) (P.failures pages.new) result }
+        ensures stopped { OnErr result (GroupsBegun [] (P.written pages.old) (P.written pages.new) self.old) }
     {
         if self.out.len() < PAGE {
             return Ok(());
@@ -282,6 +283,7 @@ impl<'a> Sheet<'a> {
         ensures written { OnOk result (AddsGroups [] (P.written pages.old) (P.written pages.new) self.old self.new) }
         ensures left { OnOk result (self.new.out.items ≡ []) }
         ensures cause { HasStop (P.failures pages.old) (P.failures pages.new) result }
+        ensures stopped { OnErr result (GroupsBegun [] (P.written pages.old) (P.written pages.new) self.old) }
     {
         pages.write(&self.out)?;
         self.out.clear();

@@ -1,7 +1,8 @@
 // The storage of QEMU's device acpi-erst: a header, a map of identifiers, and records at places of equal size.
-ghost use Rattle.std.specs.Prelude.{◌≡◌, ◌+◌, ◌*◌, ◌<◌, ◌≤◌, [], length, Some, OnOk};
-ghost use Rattle.show_items.specs.Judged.{ShowsAll, ShowsOne};
-ghost use Rattle.show_items.specs.Places.{ShowsIf};
+ghost use Rattle.std.specs.Prelude.{◌≡◌, ◌+◌, ◌*◌, ◌<◌, ◌≤◌, [], length, Some, OnOk, false};
+ghost use Rattle.show_items.specs.Beginnings.{IfStopped};
+ghost use Rattle.show_items.specs.Judged.{ShowsAll, ShowsOne, StopsIn, StopsOne};
+ghost use Rattle.show_items.specs.Places.{ShowsIf, StopsIf};
 ghost use Rattle.show_items.specs.Records.{IsRecord};
 ghost use Rattle.show_items.specs.Stops.{HasStop};
 ghost use Rattle.show_items.specs.Storage.{AreStorageItems, AreStored, IsStorageHeader, IsStored, has_identifier, identifier, place_size, record_in};
@@ -23,9 +24,11 @@ pub(crate) fn show_qemu<P: Pages>(
     pages: &mut P,
     bytes: &[u8],
 ) -> Result<(), Stop>
-    ensures shown { OnOk result (ShowsAll (AreStorageItems bytes.now)
+    ensures shown { OnOk result (ShowsAll (AreStorageItems false bytes.now)
         (P.written pages.old) (P.written pages.new) sheet.old sheet.new) }
     ensures cause { HasStop (P.failures pages.old) (P.failures pages.new) result }
+    ensures stopped { IfStopped result (StopsIn (λ early. AreStorageItems early bytes.now)
+        (P.written pages.old) (P.written pages.new) sheet.old) }
 {
     show_storage(sheet, bytes)?;
     let size = seen_u32(bytes, 8);
@@ -65,9 +68,11 @@ fn show_places<P: Pages>(
 ) -> Result<(), Stop>
     requires size { size ≡ place_size bytes.now }
     requires some { 0 < size }
-    ensures shown { OnOk result (ShowsAll (AreStored bytes.now)
+    ensures shown { OnOk result (ShowsAll (AreStored false bytes.now)
         (P.written pages.old) (P.written pages.new) sheet.old sheet.new) }
     ensures cause { HasStop (P.failures pages.old) (P.failures pages.new) result }
+    ensures stopped { IfStopped result (StopsIn (λ early. AreStored early bytes.now)
+        (P.written pages.old) (P.written pages.new) sheet.old) }
 {
     let first = seen_u32(bytes, 12) / size;
     let end = bytes.len() / size as usize;
@@ -90,6 +95,8 @@ fn show_place<P: Pages>(
     ensures shown { OnOk result (ShowsIf (has_identifier bytes.now place) (IsStored bytes.now place)
         (P.written pages.old) (P.written pages.new) sheet.old sheet.new) }
     ensures cause { HasStop (P.failures pages.old) (P.failures pages.new) result }
+    ensures stopped { IfStopped result (StopsIf (has_identifier bytes.now place) (IsStored bytes.now place)
+        (P.written pages.old) (P.written pages.new) sheet.old) }
 {
     if !has_identifier(bytes, place) {
         return Ok(());
@@ -127,6 +134,8 @@ fn show_stored<P: Pages>(
     ensures shown { OnOk result (ShowsOne (IsRecord (Some at) (record_in place.now))
         (P.written pages.old) (P.written pages.new) sheet.old sheet.new) }
     ensures cause { HasStop (P.failures pages.old) (P.failures pages.new) result }
+    ensures stopped { IfStopped result (StopsOne (IsRecord (Some at) (record_in place.now))
+        (P.written pages.old) (P.written pages.new) sheet.old) }
 {
     let len = item_len(Item::Record, place);
     show_record(sheet, pages, Some(at as u64), &place[..len])

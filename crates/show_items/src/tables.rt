@@ -3,8 +3,9 @@ ghost use Rattle.std.specs.Prelude.{◌≡◌, ◌<◌, ◌^◌, ◌+◌, [], �
 ghost use Rattle.field_lines.specs.Layouts.{is_sound_structure};
 ghost use Rattle.field_lines.specs.Code.{structure_of};
 ghost use Rattle.show_findings.specs.Places.{seen_number};
-ghost use Rattle.show_items.specs.Judged.{ShowsOne};
-ghost use Rattle.show_items.specs.Sheets.{AddsGroups};
+ghost use Rattle.show_items.specs.Beginnings.{IfStopped};
+ghost use Rattle.show_items.specs.Judged.{ShowsOne, StopsOne};
+ghost use Rattle.show_items.specs.Sheets.{AddsGroups, GroupsBegun};
 ghost use Rattle.show_items.specs.Stops.{HasStop};
 ghost use Rattle.show_items.specs.Tables.{IsTable, IsTableFault, fixed_group, groups_behind, instruction_group, instruction_groups, source_group, source_groups, table_groups, table_of};
 
@@ -39,6 +40,8 @@ pub(crate) fn show_table<P: Pages>(
     ensures shown { OnOk result (ShowsOne (IsTable at bytes.now)
         (P.written pages.old) (P.written pages.new) sheet.old sheet.new) }
     ensures cause { HasStop (P.failures pages.old) (P.failures pages.new) result }
+    ensures stopped { IfStopped result (StopsOne (IsTable at bytes.now)
+        (P.written pages.old) (P.written pages.new) sheet.old) }
 {
     let item = Item {
         kind: "table",
@@ -47,9 +50,9 @@ pub(crate) fn show_table<P: Pages>(
     };
     let mut sentence = String::new(sheet.alloc());
     add_table(&mut sentence, bytes)?;
+    let fault = table_fault(sheet, bytes)?;
     sheet.begin(&item, sentence.as_str())?;
     add_groups(sheet, pages, bytes)?;
-    let fault = table_fault(sheet, bytes)?;
     sheet.end(&fault)?;
     sheet.turn(pages)
 }
@@ -82,6 +85,8 @@ fn add_groups<P: Pages>(sheet: &mut Sheet<'_>, pages: &mut P, bytes: &[u8]) -> R
     ensures shown { OnOk result (AddsGroups (table_groups bytes.now)
         (P.written pages.old) (P.written pages.new) sheet.old sheet.new) }
     ensures cause { HasStop (P.failures pages.old) (P.failures pages.new) result }
+    ensures stopped { IfStopped result (GroupsBegun (table_groups bytes.now)
+        (P.written pages.old) (P.written pages.new) sheet.old) }
 {
     if sheet.form() == Form::Brief {
         return Ok(());
@@ -95,6 +100,8 @@ fn add_behind<P: Pages>(sheet: &mut Sheet<'_>, pages: &mut P, bytes: &[u8]) -> R
     ensures shown { OnOk result (AddsGroups (groups_behind (table_of bytes.now) bytes.now)
         (P.written pages.old) (P.written pages.new) sheet.old sheet.new) }
     ensures cause { HasStop (P.failures pages.old) (P.failures pages.new) result }
+    ensures stopped { IfStopped result (GroupsBegun (groups_behind (table_of bytes.now) bytes.now)
+        (P.written pages.old) (P.written pages.new) sheet.old) }
 {
     match table_of(bytes) {
         Some(Decoded::Erst) => {
@@ -140,6 +147,8 @@ fn add_instructions<P: Pages>(
     ensures shown { OnOk result (AddsGroups (instruction_groups bytes.now (seen_number bytes.now 44 4) 0)
         (P.written pages.old) (P.written pages.new) sheet.old sheet.new) }
     ensures cause { HasStop (P.failures pages.old) (P.failures pages.new) result }
+    ensures stopped { IfStopped result (GroupsBegun (instruction_groups bytes.now (seen_number bytes.now 44 4) 0)
+        (P.written pages.old) (P.written pages.new) sheet.old) }
 {
     for index in 0..seen_u32(bytes, 44) {
         let Some(entry) = instruction_at(bytes, index) else {
@@ -168,6 +177,8 @@ fn add_sources<P: Pages>(sheet: &mut Sheet<'_>, pages: &mut P, bytes: &[u8]) -> 
     ensures shown { OnOk result (AddsGroups (source_groups bytes.now (seen_number bytes.now 36 4) 0 40)
         (P.written pages.old) (P.written pages.new) sheet.old sheet.new) }
     ensures cause { HasStop (P.failures pages.old) (P.failures pages.new) result }
+    ensures stopped { IfStopped result (GroupsBegun (source_groups bytes.now (seen_number bytes.now 36 4) 0 40)
+        (P.written pages.old) (P.written pages.new) sheet.old) }
 {
     let mut at = HEST;
     for index in 0..seen_u32(bytes, 36) {

@@ -1,7 +1,9 @@
 use Rattle.std.proofs.Common.{◌≡◌, ℕ, List, [], ◌∷◌, ◌++◌, length, Option, rules}
 use Rattle.show_findings.specs.Places.{seen_number}
 use Rattle.show_items.specs.Blocks.{block_groups, entry_groups, head_group, raw_groups, raw_of}
+use Rattle.show_items.specs.Sheets.{GroupsBegun}
 use Rattle.show_items.specs.declared.sheet.Form.TheVariants.{Brief}
+use Rattle.show_items.proofs.BeginningLemmas.{groups_begun_more, groups_begun_then, stopped_so}
 use Rattle.show_items.proofs.SheetLemmas.{brief_adds_nothing, groups_then, on_pages}
 use Rattle.show_items.proofs.blocks.add_groups.Goals as goal
 
@@ -23,3 +25,17 @@ returns-clause-groups g c =
     groups_then (head_group bytes ∷ []) (entries ++ raw) before before after c.args.sheet.now headed new
     (on_pages (head_group bytes ∷ []) before c.args.sheet.now headed c.in_ok-add_head.ensures)
     (groups_then entries raw before after after headed listed new c.in_ok-add_entries.ensures.groups (on_pages raw after listed new c.in_ok-add_raw.ensures))
+
+pub returns-in_err-add_entries-clause-stopped : goal.returns-in_err-add_entries-clause-stopped
+returns-in_err-add_entries-clause-stopped g c =
+    let bytes = c.args.bytes.now in
+    let entries = entry_groups bytes (length bytes) 0 20 in
+    let raw = raw_groups (seen_number bytes 4 4) (raw_of bytes) in
+    let before : Option (List ℕ) = g.P.Pages.written c.args.pages.now in
+    let after : Option (List ℕ) = g.P.Pages.written c.add_entries.new.pages in
+    let headed = c.add_head.new.sheet in
+    stopped_so c.from_residual-in_err-add_entries.result c.in_err-add_entries.field-0.0 (GroupsBegun entries before after headed) _
+    c.from_residual-in_err-add_entries.ensures.1
+    (λ begun. groups_begun_then (head_group bytes ∷ []) (entries ++ raw) before before after c.args.sheet.now headed
+    (on_pages (head_group bytes ∷ []) before c.args.sheet.now headed c.in_ok-add_head.ensures) (groups_begun_more entries raw before after headed begun))
+    c.in_err-add_entries.ensures.stopped

@@ -1,8 +1,10 @@
-use Rattle.std.proofs.Common.{ℕ, List, length, codes, Option, is_some, refl}
+use Rattle.std.proofs.Common.{ℕ, List, [], length, codes, Option, is_some, refl}
 use Rattle.std.proofs.lemmas.Result.{on_ok_weaker}
 use Rattle.show_items.specs.Items.{Shown}
 use Rattle.show_items.specs.Blocks.{block_groups}
+use Rattle.show_items.proofs.BeginningLemmas.{if_failed, item_begun, item_stopped, stopped_so}
 use Rattle.show_items.proofs.SheetLemmas.{item_shown}
+use Rattle.show_items.specs.Sheets.{GroupsBegun}
 use Rattle.show_items.proofs.blocks.show_block.Goals as goal
 
 pub returns-clause-shown : goal.returns-clause-shown
@@ -29,3 +31,52 @@ returns-clause-shown g c =
           c.in_ok-begin.ensures c.in_ok-add_groups.ensures.groups c.in_ok-end.ensures turns,
     ))
     c.turn.ensures.turned
+
+pub returns-in_err-add_groups-clause-stopped : goal.returns-in_err-add_groups-clause-stopped
+returns-in_err-add_groups-clause-stopped g c =
+    let bytes = c.args.bytes.now in
+    let item : Shown = record {
+      heading = record { kind = codes "block"; at = c.args.at; size = length bytes; sentence = c.as_str.result.now };
+      groups = block_groups bytes;
+      fault = c.in_ok-fault.fault;
+      bad = is_some c.in_ok-fault.fault;
+    } in
+    let before : Option (List ℕ) = g.P.Pages.written c.args.pages.now in
+    let after : Option (List ℕ) = g.P.Pages.written c.add_groups.new.pages in
+    stopped_so c.from_residual-in_err-add_groups.result c.in_err-add_groups.field-0.0 (GroupsBegun (block_groups bytes) before after c.begin.new.self) _
+    c.from_residual-in_err-add_groups.ensures.1
+    (λ groups. (
+      item,
+      record {
+        heading = record { word = refl; place = refl; size = refl };
+        groups = refl;
+        judged = record { finding = c.in_ok-fault.ensures; bad = refl };
+      },
+      item_begun item before after c.args.sheet.now c.begin.new.self c.in_ok-begin.ensures groups,
+    ))
+    c.in_err-add_groups.ensures.stopped
+
+pub returns-clause-stopped : goal.returns-clause-stopped
+returns-clause-stopped g c =
+    let bytes = c.args.bytes.now in
+    let item : Shown = record {
+      heading = record { kind = codes "block"; at = c.args.at; size = length bytes; sentence = c.as_str.result.now };
+      groups = block_groups bytes;
+      fault = c.in_ok-fault.fault;
+      bad = is_some c.in_ok-fault.fault;
+    } in
+    let before : Option (List ℕ) = g.P.Pages.written c.args.pages.now in
+    let middle : Option (List ℕ) = g.P.Pages.written c.add_groups.new.pages in
+    let after : Option (List ℕ) = g.P.Pages.written c.turn.new.pages in
+    if_failed c.turn.result (GroupsBegun [] middle after c.end.new.self) _
+    (λ begun. (
+      item,
+      record {
+        heading = record { word = refl; place = refl; size = refl };
+        groups = refl;
+        judged = record { finding = c.in_ok-fault.ensures; bad = refl };
+      },
+      item_stopped item before middle after c.args.sheet.now c.begin.new.self c.add_groups.new.sheet c.end.new.self
+          c.in_ok-begin.ensures c.in_ok-add_groups.ensures.groups c.in_ok-end.ensures begun,
+    ))
+    c.turn.ensures.stopped

@@ -1,4 +1,4 @@
-use Rattle.std.proofs.Common.{arith, ◌∙◌, ◌<◌, ◌+◌, ◌-◌, ℕ, List, ◌++◌, ap}
+use Rattle.std.proofs.Common.{arith, ◌∙◌, ◌+◌, ◌-◌, ℕ, List, ◌++◌, ap}
 use Rattle.show_items.specs.Dumps.{pairs}
 use Rattle.show_items.proofs.DumpLemmas.{no_count_left, no_pair, pair_added}
 use Rattle.show_items.proofs.dumps.add_pairs.Goals as goal

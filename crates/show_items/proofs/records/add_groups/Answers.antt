@@ -2,7 +2,9 @@ use Rattle.std.proofs.Common.{◌≡◌, ℕ, List, [], ◌∷◌, Option, rules
 use Rattle.std.proofs.lemmas.Result.{on_ok_weaker}
 use Rattle.show_findings.specs.Places.{seen_number}
 use Rattle.show_items.specs.Records.{header_group, record_groups, room_of, section_groups}
+use Rattle.show_items.specs.Sheets.{GroupsBegun}
 use Rattle.show_items.specs.declared.sheet.Form.TheVariants.{Brief}
+use Rattle.show_items.proofs.BeginningLemmas.{groups_begun_then, if_stopped}
 use Rattle.show_items.proofs.SheetLemmas.{brief_adds_nothing, groups_then, on_pages}
 use Rattle.show_items.proofs.records.add_groups.Goals as goal
 
@@ -21,3 +23,15 @@ returns-clause-groups g c =
     (groups_then (header_group bytes ∷ []) (section_groups bytes (seen_number bytes 10 2) 0 (room_of bytes)) before before after
     c.args.sheet.now headed c.add_sections.new.sheet (on_pages (header_group bytes ∷ []) before c.args.sheet.now headed c.in_ok-add_header.ensures))
     c.add_sections.ensures.groups
+
+pub returns-clause-stopped : goal.returns-clause-stopped
+returns-clause-stopped g c =
+    let bytes = c.args.bytes.now in
+    let sections = section_groups bytes (seen_number bytes 10 2) 0 (room_of bytes) in
+    let before : Option (List ℕ) = g.P.Pages.written c.args.pages.now in
+    let after : Option (List ℕ) = g.P.Pages.written c.add_sections.new.pages in
+    let headed = c.add_header.new.sheet in
+    if_stopped c.add_sections.result (GroupsBegun sections before after headed) _
+    (groups_begun_then (header_group bytes ∷ []) sections before before after c.args.sheet.now headed
+    (on_pages (header_group bytes ∷ []) before c.args.sheet.now headed c.in_ok-add_header.ensures))
+    c.add_sections.ensures.stopped

@@ -2,6 +2,7 @@ use Rattle.std.proofs.Common.{◌≡◌, ◌∙◌, ℕ, suc, ◌+◌, ◌-◌, 
 use Rattle.base_model.proofs.BytesLemmas.{length-part, length-part-le}
 use Rattle.show_findings.specs.Places.{seen_number}
 use Rattle.show_items.specs.Records.{body_group, descriptor_at, descriptor_group, room_behind, section_groups}
+use Rattle.show_items.proofs.BeginningLemmas.{added_and_stopped, same_begun, stops, turned_and_begun}
 use Rattle.show_items.proofs.ItemLemmas.{same_groups, turned_and_more}
 use Rattle.show_items.proofs.RecordLemmas.{body_seen, no_count, no_section, one_section_more, section_of}
 use Rattle.show_items.proofs.SheetLemmas.{no_groups}
@@ -55,7 +56,36 @@ loop-index-preserved g c =
           (one_section_more bytes (seen_number bytes 10 2 - index) left index room (room - length body) one c.in-Some.ensures.section.0.within behind)
           (turned_and_more (descriptor_group bytes index ∷ body_group bytes index room ∷ []) (section_groups bytes left (index + 1) (room - length body))
           before middle written c.loop-index.sheet added c.turn.new.self last described c.in_ok-turn.ensures.turned adds));
+      stopped = λ written begun. c.loop-index.invariant.stopped written
+          (same_begun _ (section_groups bytes (seen_number bytes 10 2 - index) index room) before written c.loop-index.sheet
+          (one_section_more bytes (seen_number bytes 10 2 - index) left index room (room - length body) one c.in-Some.ensures.section.0.within behind)
+          (turned_and_begun (descriptor_group bytes index ∷ body_group bytes index room ∷ []) (section_groups bytes left (index + 1) (room - length body))
+          before middle written c.loop-index.sheet added c.turn.new.self described c.in_ok-turn.ensures.turned begun));
     }
+
+pub returns-in_err-turn-clause-stopped : goal.returns-in_err-turn-clause-stopped
+returns-in_err-turn-clause-stopped g c =
+    let bytes = c.args.bytes.now in
+    let index = c.loop-index.index in
+    let room = c.loop-index.room in
+    let section = c.in-Some.section in
+    let body = c.seen_at-body.result.now in
+    let is = c.in-Some.ensures.section.1 in
+    let left = seen_number bytes 10 2 - (index + 1) in
+    let one : seen_number bytes 10 2 - index ≡ suc left = omega (arith, c.loop-index-test.true, c.seen_u16-index-end.ensures) in
+    let seen = body_seen bytes index section.at section.descriptor.now section.body_at section.body.now body room is c.seen_at-body.ensures in
+    let behind : room - length body ≡ room_behind bytes index room = ap (λ (b : List ℕ). room - length b) seen in
+    let before : Option (List ℕ) = g.P.Pages.written c.loop-index.pages in
+    let after : Option (List ℕ) = g.P.Pages.written c.turn.new.pages in
+    let added = c.add_described.new.sheet in
+    let described = same_groups _ (descriptor_group bytes index ∷ body_group bytes index room ∷ []) _ _ c.loop-index.sheet added
+    (section_of bytes index section.at section.descriptor.now section.body_at section.body.now body room is seen) c.in_ok-add_described.ensures in
+    stops c.from_residual-in_err-turn.result _
+    (c.loop-index.invariant.stopped after
+    (same_begun _ (section_groups bytes (seen_number bytes 10 2 - index) index room) before after c.loop-index.sheet
+    (one_section_more bytes (seen_number bytes 10 2 - index) left index room (room - length body) one c.in-Some.ensures.section.0.within behind)
+    (added_and_stopped (descriptor_group bytes index ∷ body_group bytes index room ∷ []) (section_groups bytes left (index + 1) (room - length body))
+    before after c.loop-index.sheet added described c.in_err-turn.ensures.stopped)))
 
 pub returns-clause-groups : goal.returns-clause-groups
 returns-clause-groups g c =

@@ -1,10 +1,13 @@
-use Rattle.std.proofs.Common.{◌≡◌, ◌≢◌, ◌∙◌, ℕ, List, [], Option, Some, refl, sym, arith}
+use Rattle.std.proofs.Common.{◌≡◌, ◌≢◌, ◌∙◌, ℕ, List, [], Option, Some, refl, sym, ap, take, arith}
 use Rattle.show_findings.specs.declared.kinds.FileKind.TheVariants.{Records, Tables, Blocks, Blank}
 use Rattle.show_findings.specs.Kinds.{kind_behind}
-use Rattle.show_items.specs.Sequences.{IsFirst, is_item}
+use Rattle.show_items.specs.Judged.{StopsOne}
+use Rattle.show_items.specs.Sequences.{IsFirst, IsItemAs, is_item, kind_of_item}
 use Rattle.show_items.specs.Singles.{IsBlank, IsUnknown}
-use Rattle.show_items.proofs.SequenceLemmas.{blank_behind, blank_first, is_blank, is_unknown, len_of_unknown, none_shown, one_of_kind, one_on_pages, one_shown, unknown_first}
+use Rattle.show_items.proofs.BeginningLemmas.{stopped_so}
+use Rattle.show_items.proofs.SequenceLemmas.{blank_behind, blank_first, first_of_kind, is_blank, is_unknown, len_of_unknown, none_shown, one_of_kind, one_on_pages, one_shown, unknown_first}
 use Rattle.show_items.proofs.sequences.show_next.Goals as goal
+use Rattle.show_items.proofs.sequences.show_next.Goals.{in-Records, in-Tables, in-Blocks}
 
 pub returns-in-Blank-clause-shown : goal.returns-in-Blank-clause-shown
 returns-in-Blank-clause-shown g c =
@@ -43,7 +46,27 @@ returns-in_default g c =
           (one_of_kind (IsUnknown at rest) (IsFirst at rest) (Some []) (Some []) c.args.sheet.now c.show_unknown.new.sheet
           (is_unknown at kind rest record_not table_not block_not blank_not) c.in_ok-show_unknown-in_default.ensures));
       cause = refl;
+      stopped = tt;
       exact = sym (len_of_unknown kind rest record_not table_not block_not);
       some = c.requires;
       within = omega arith;
     }
+
+pub returns-in_err-show_item-clause-stopped : goal.returns-in_err-show_item-clause-stopped
+returns-in_err-show_item-clause-stopped g c =
+    let at : ℕ = c.args.at in
+    let rest = c.args.rest.now in
+    let item = c.match-kind_behind.item in
+    let len : ℕ = c.item_len-len.result in
+    let before : Option (List ℕ) = g.P.Pages.written c.args.pages.now in
+    let after : Option (List ℕ) = g.P.Pages.written c.show_item.new.pages in
+    let same : kind_behind rest ≡ kind_of_item item =
+    elim c.match-kind_behind.branch [
+      | in-Records w ↦ sym c.kind_behind.ensures ∙ w.in-Records.is ∙ ap kind_of_item (sym w.item-is)
+      | in-Tables w ↦ sym c.kind_behind.ensures ∙ w.in-Tables.is ∙ ap kind_of_item (sym w.item-is)
+      | in-Blocks w ↦ sym c.kind_behind.ensures ∙ w.in-Blocks.is ∙ ap kind_of_item (sym w.item-is)
+    ] in
+    stopped_so c.from_residual-in_err-show_item.result c.in_err-show_item.field-0.0 (StopsOne (IsItemAs (kind_of_item item) at (take len rest)) before after c.args.sheet.now) _
+    c.from_residual-in_err-show_item.ensures.1
+    (first_of_kind at len rest item before after c.args.sheet.now same c.item_len-len.ensures)
+    c.in_err-show_item.ensures.stopped

@@ -1,8 +1,9 @@
-use Rattle.std.proofs.Common.{◌≡◌, ◌∙◌, ℕ, suc, ◌+◌, ◌-◌, ◌<◌, List, Option, subst, arith}
+use Rattle.std.proofs.Common.{◌≡◌, ◌∙◌, ℕ, suc, ◌+◌, ◌-◌, ◌<◌, List, [], ◌∷◌, Option, subst, arith}
 use Rattle.show_findings.specs.Places.{seen_number}
 use Rattle.show_items.specs.Groups.{Group}
 use Rattle.show_items.specs.Sheets.{AddsGroups}
 use Rattle.show_items.specs.Tables.{instruction_group, instruction_groups}
+use Rattle.show_items.proofs.BeginningLemmas.{added_and_stopped, same_begun, stops, turned_and_begun}
 use Rattle.show_items.proofs.SheetLemmas.{no_groups}
 use Rattle.show_items.proofs.TableLemmas.{group_turned_and_more, instruction_and_more, no_instruction}
 use Rattle.show_items.proofs.tables.add_instructions.Goals as goal
@@ -37,6 +38,12 @@ loop-index-preserved g c =
           (group_turned_and_more (instruction_group index entry) (instruction_groups bytes more (index + 1))
           (g.P.Pages.written c.loop-index.pages) (g.P.Pages.written c.turn.new.pages) after c.loop-index.sheet c.add_instruction.new.sheet c.turn.new.self last
           c.in_ok-add_instruction.ensures c.in_ok-turn.ensures.turned rest));
+      stopped = λ after begun.
+          c.loop-index.invariant.stopped after
+          (same_begun _ _ (g.P.Pages.written c.loop-index.pages) after c.loop-index.sheet whole
+          (turned_and_begun (instruction_group index entry ∷ []) (instruction_groups bytes more (index + 1))
+          (g.P.Pages.written c.loop-index.pages) (g.P.Pages.written c.turn.new.pages) after c.loop-index.sheet c.add_instruction.new.sheet c.turn.new.self
+          c.in_ok-add_instruction.ensures c.in_ok-turn.ensures.turned begun));
       written = c.in_ok-turn.ensures.cause ∙ c.loop-index.invariant.written;
     }
 
@@ -49,3 +56,23 @@ returns-clause-shown g c =
     let none : 0 ≡ seen_number bytes 44 4 - index = omega (arith, c.loop-index-test.false) in
     c.loop-index.invariant.whole sheet written
     (subst (λ (left : ℕ). AddsGroups (instruction_groups bytes left index) written written sheet sheet) none (no_groups written sheet))
+
+pub returns-in_err-turn-clause-stopped : goal.returns-in_err-turn-clause-stopped
+returns-in_err-turn-clause-stopped g c =
+    let bytes = c.args.bytes.now in
+    let index : ℕ = c.loop-index.index in
+    let left : ℕ = seen_number bytes 44 4 - index in
+    let more : ℕ = seen_number bytes 44 4 - (index + 1) in
+    let entry = c.in-Some.entry.now in
+    let has = c.in-Some.ensures.0 in
+    let counted : index < seen_number bytes 44 4 = has.counted in
+    let one : left ≡ suc more = omega (arith, counted) in
+    let next : index + 1 ≡ suc index = omega arith in
+    let whole = instruction_and_more bytes left more index (index + 1) entry one next has c.in-Some.ensures.1 in
+    let before : Option (List ℕ) = g.P.Pages.written c.loop-index.pages in
+    let after : Option (List ℕ) = g.P.Pages.written c.turn.new.pages in
+    stops c.from_residual-in_err-turn.result _
+    (c.loop-index.invariant.stopped after
+    (same_begun _ _ before after c.loop-index.sheet whole
+    (added_and_stopped (instruction_group index entry ∷ []) (instruction_groups bytes more (index + 1))
+    before after c.loop-index.sheet c.add_instruction.new.sheet c.in_ok-add_instruction.ensures c.in_err-turn.ensures.stopped)))

@@ -1,7 +1,9 @@
-use Rattle.std.proofs.Common.{codes, length, is_some, refl}
+use Rattle.std.proofs.Common.{ℕ, List, [], length, codes, Option, is_some, refl}
 use Rattle.std.proofs.lemmas.Result.{on_ok_weaker}
 use Rattle.show_items.specs.Items.{Shown}
+use Rattle.show_items.specs.Sheets.{GroupsBegun}
 use Rattle.show_items.specs.Tables.{IsTable, table_groups}
+use Rattle.show_items.proofs.BeginningLemmas.{if_failed, item_begun, item_stopped, stopped_so}
 use Rattle.show_items.proofs.SheetLemmas.{item_shown}
 use Rattle.show_items.proofs.tables.show_table.Goals as goal
 
@@ -29,3 +31,56 @@ returns-clause-shown g c =
           c.in_ok-begin.ensures c.in_ok-add_groups.ensures.shown c.in_ok-end.ensures turned,
     ))
     c.turn.ensures.turned
+
+pub returns-in_err-add_groups-clause-stopped : goal.returns-in_err-add_groups-clause-stopped
+returns-in_err-add_groups-clause-stopped g c =
+    let bytes = c.args.bytes.now in
+    let item : Shown = record {
+      heading = record { kind = codes "table"; at = c.args.at; size = length bytes; sentence = c.as_str.result.now };
+      groups = table_groups bytes;
+      fault = c.in_ok-fault.fault;
+      bad = is_some c.in_ok-fault.fault;
+    } in
+    let is_table : IsTable c.args.at bytes item = record {
+      heading = record { word = refl; place = refl; size = refl };
+      groups = refl;
+      finding = c.in_ok-fault.ensures;
+      bad = refl;
+    } in
+    let before : Option (List ℕ) = g.P.Pages.written c.args.pages.now in
+    let after : Option (List ℕ) = g.P.Pages.written c.add_groups.new.pages in
+    stopped_so c.from_residual-in_err-add_groups.result c.in_err-add_groups.field-0.0 (GroupsBegun (table_groups bytes) before after c.begin.new.self) _
+    c.from_residual-in_err-add_groups.ensures.1
+    (λ groups. (
+      item,
+      is_table,
+      item_begun item before after c.args.sheet.now c.begin.new.self c.in_ok-begin.ensures groups,
+    ))
+    c.in_err-add_groups.ensures.stopped
+
+pub returns-clause-stopped : goal.returns-clause-stopped
+returns-clause-stopped g c =
+    let bytes = c.args.bytes.now in
+    let item : Shown = record {
+      heading = record { kind = codes "table"; at = c.args.at; size = length bytes; sentence = c.as_str.result.now };
+      groups = table_groups bytes;
+      fault = c.in_ok-fault.fault;
+      bad = is_some c.in_ok-fault.fault;
+    } in
+    let is_table : IsTable c.args.at bytes item = record {
+      heading = record { word = refl; place = refl; size = refl };
+      groups = refl;
+      finding = c.in_ok-fault.ensures;
+      bad = refl;
+    } in
+    let before : Option (List ℕ) = g.P.Pages.written c.args.pages.now in
+    let middle : Option (List ℕ) = g.P.Pages.written c.add_groups.new.pages in
+    let after : Option (List ℕ) = g.P.Pages.written c.turn.new.pages in
+    if_failed c.turn.result (GroupsBegun [] middle after c.end.new.self) _
+    (λ begun. (
+      item,
+      is_table,
+      item_stopped item before middle after c.args.sheet.now c.begin.new.self c.add_groups.new.sheet c.end.new.self
+          c.in_ok-begin.ensures c.in_ok-add_groups.ensures.shown c.in_ok-end.ensures begun,
+    ))
+    c.turn.ensures.stopped
