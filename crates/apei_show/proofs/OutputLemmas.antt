@@ -1,13 +1,16 @@
 -- What was written by a sheet on which nothing stands, before and after.
-use Rattle.std.proofs.Common.{◌≡◌, ◌∙◌, ℕ, Bool, false, List, [], ◌++◌, Option, Some, None, Result, Ok, Err, IfOk, refl, ap, subst, append-nil, append_assoc}
-use Rattle.std.specs.Io.KnownBytes.{Appends, append_known}
-use Rattle.show_items.specs.Files.{ShowsFile}
+use Rattle.std.proofs.Common.{◌≡◌, ◌∙◌, ℕ, Bool, false, List, [], ◌∷◌, ◌++◌, length, take, drop, Option, Some, None, Result, Ok, Err, IfOk, OnErr, inl, inr, refl, sym, ap, subst, append-nil, append_assoc, arith}
+use Rattle.std.proofs.lemmas.List.{take-append-drop}
+use Rattle.std.specs.Io.KnownBytes.{Appends, Keeps, append_known}
+use Rattle.show_items.specs.Beginnings.{IsBegun}
+use Rattle.show_items.specs.Files.{ShowsFile, StopsFile}
 use Rattle.show_items.specs.Items.{bad_after, items_text}
 use Rattle.show_items.specs.declared.pages.Stop.{Stop}
 use Rattle.show_items.specs.declared.sheet.Manner.{Manner}
 use Rattle.show_items.specs.declared.sheet.Sheet.{Sheet}
 use Rattle.apei_show.specs.Names.{name_of}
-use Rattle.apei_show.specs.Outputs.{IsWritten}
+use Rattle.apei_show.specs.Outputs.{IsWritten, StopsWriting}
+use Rattle.show_items.proofs.BeginningLemmas.{begun_more, begun_then}
 
 nothing_behind : (known : Option (List ℕ)) → append_known known [] ≡ known
 nothing_behind None = refl
@@ -21,7 +24,7 @@ on_pages_alone before after old new text none left appends =
     subst (λ (a : Option (List ℕ)). Appends before a text) (nothing_behind after)
     (subst (λ (b : Option (List ℕ)). Appends b (append_known after []) text) (nothing_behind before) first)
 
-appends_then : (a b c : Option (List ℕ)) (x y : List ℕ) → Appends a b x → Appends b c y → Appends a c (x ++ y)
+pub appends_then : (a b c : Option (List ℕ)) (x y : List ℕ) → Appends a b x → Appends b c y → Appends a c (x ++ y)
 appends_then None b c x y first then = tt
 appends_then (Some one) (Some two) (Some three) x y first then = then ∙ ap (λ (t : List ℕ). t ++ y) first ∙ append_assoc one x y
 appends_then (Some one) (Some two) None x y first then = absurd then
@@ -55,3 +58,94 @@ sheet_written manner path bytes bad before after blank full path_is manner_is no
         tells = tells ∙ shows.2.has_bad ∙ ap (λ (b : Bool). bad_after b items) sound;
       },
     )
+
+-- a page of which a part was written
+pub page_begun : (before now after : Option (List ℕ)) (page part rest : List ℕ) → Appends before now part → Keeps now after → page ≡ part ++ rest
+    → IsBegun before (append_known before page) after
+page_begun None now after page part rest first keeps same = record { grows = ([], tt); begins = tt }
+page_begun (Some old) None after page part rest first keeps same = absurd first
+page_begun (Some old) (Some now) None page part rest first keeps same = absurd keeps
+page_begun (Some old) (Some now) (Some new) page part rest first keeps same = record {
+  grows = (part, keeps ∙ first);
+  begins = (rest, ap (λ (t : List ℕ). old ++ t) same ∙ sym (append_assoc old part rest) ∙ ap (λ (t : List ℕ). t ++ rest) (sym (keeps ∙ first)));
+}
+
+-- what a call that took nothing left
+pub keeps_then : (a b c : Option (List ℕ)) → Keeps a b → Keeps b c → Keeps a c
+keeps_then None b c first then = tt
+keeps_then (Some one) None c first then = absurd first
+keeps_then (Some one) (Some two) None first then = absurd then
+keeps_then (Some one) (Some two) (Some three) first then = then ∙ first
+
+pub keeps_same : (a : Option (List ℕ)) → Keeps a a
+keeps_same None = tt
+keeps_same (Some one) = refl
+
+pub appends_kept : (a b c : Option (List ℕ)) (x : List ℕ) → Keeps a b → Appends b c x → Appends a c x
+appends_kept None b c x first then = tt
+appends_kept (Some one) None c x first then = absurd first
+appends_kept (Some one) (Some two) None x first then = absurd then
+appends_kept (Some one) (Some two) (Some three) x first then = then ∙ ap (λ (t : List ℕ). t ++ x) first
+
+pub appends_none : (a : Option (List ℕ)) → Appends a a []
+appends_none None = tt
+appends_none (Some one) = sym (append-nil one)
+
+pub kept_by_none : (a b : Option (List ℕ)) → Appends a b [] → Keeps a b
+kept_by_none None b first = tt
+kept_by_none (Some one) None first = absurd first
+kept_by_none (Some one) (Some two) first = first ∙ append-nil one
+
+-- what a blank sheet had written when a page could not be
+pub sheet_begun : (manner : Manner) (path bytes : List ℕ) (before after : Option (List ℕ)) (blank : Sheet)
+    → blank.path.now ≡ path → blank.manner ≡ manner → blank.out.items ≡ [] → blank.items ≡ 0
+    → StopsFile (name_of path) bytes before after blank → StopsWriting manner [] path bytes before after
+sheet_begun manner path bytes before after blank path_is manner_is none no_items stops =
+    let items = stops.1.0 in
+    let T : Option (List ℕ) → Manner → List ℕ → ℕ → Type 0 = λ (b : Option (List ℕ)) (m : Manner) (p : List ℕ) (n : ℕ). IsBegun before (append_known b (items_text m p n items)) after in
+    let by_sheet : T (append_known before []) blank.manner blank.path.now blank.items =
+    subst (λ (out : List ℕ). T (append_known before out) blank.manner blank.path.now blank.items) none stops.1.2 in
+    let by_pages : T before blank.manner blank.path.now blank.items = subst (λ (b : Option (List ℕ)). T b blank.manner blank.path.now blank.items) (nothing_behind before) by_sheet in
+    let by_manner : T before manner blank.path.now blank.items = subst (λ (m : Manner). T before m blank.path.now blank.items) manner_is by_pages in
+    let by_path : T before manner path blank.items = subst (λ (p : List ℕ). T before manner p blank.items) path_is by_manner in
+    record {
+      items = items;
+      are = inr (stops.0, stops.1.1);
+      begun = subst (λ (n : ℕ). T before manner path n) no_items by_path;
+    }
+
+-- a stop at the head, and one at the items behind it
+pub head_begun : (manner : Manner) (head path bytes : List ℕ) (before after : Option (List ℕ)) → IsBegun before (append_known before head) after
+    → StopsWriting manner head path bytes before after
+head_begun manner head path bytes before after begun = record {
+  items = [];
+  are = inl refl;
+  begun = begun_more before after before head [] begun;
+}
+
+pub items_begun : (manner : Manner) (head path bytes : List ℕ) (before middle after : Option (List ℕ)) → Appends before middle head
+    → StopsWriting manner [] path bytes middle after → StopsWriting manner head path bytes before after
+items_begun manner head path bytes before middle after first stops = record {
+  items = stops.items;
+  are = stops.are;
+  begun = begun_then before middle after before middle head (items_text manner path 0 stops.items) (head, first) first stops.begun;
+}
+
+-- a further part of it
+pub part_written : (before now after : Option (List ℕ)) (page part rest : List ℕ) (taken : ℕ) (left : List ℕ) → left ≡ drop taken rest → Appends before now part
+    → Appends now after (take taken rest) → page ≡ part ++ rest → (more : List ℕ) × Appends before after more × (page ≡ more ++ left)
+part_written before now after page part rest taken left behind first then same = (
+  part ++ take taken rest,
+  appends_then before now after part (take taken rest) first then,
+  same ∙ ap (λ (t : List ℕ). part ++ t) (sym (take-append-drop taken rest)) ∙ sym (append_assoc part (take taken rest) (drop taken rest))
+      ∙ ap (λ (t : List ℕ). (part ++ take taken rest) ++ t) (sym behind),
+)
+
+-- all of it
+pub all_written : (before now : Option (List ℕ)) (page part rest : List ℕ) → Appends before now part → page ≡ part ++ rest → length rest ≡ 0 → Appends before now page
+all_written before now page part [] first same none = subst (λ (t : List ℕ). Appends before now t) (sym (same ∙ append-nil part)) first
+all_written before now page part (byte ∷ rest) first same none = absurd (omega (arith, none))
+
+pub fails : {T E : Type 0} → (result : Result T E) (Fact : Type 0) → Fact → OnErr result Fact
+fails (Ok value) Fact fact = tt
+fails (Err error) Fact fact = fact

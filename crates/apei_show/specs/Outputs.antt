@@ -1,7 +1,9 @@
 -- What is written of a file, and why no more is.
-use Rattle.std.specs.Prelude.{◌≡◌, ℕ, Bool, false, if◌then◌else◌, List, [], ◌++◌, codes}
+use Rattle.std.specs.Prelude.{◌≡◌, ◌⊎◌, ℕ, Bool, false, if◌then◌else◌, List, [], ◌++◌, codes, Option}
+use Rattle.std.specs.Io.KnownBytes.{append_known}
 use Rattle.std.specs.declared.io.ErrorKind.{ErrorKind}
 use Rattle.std.specs.declared.io.ErrorKind.TheVariants.{BrokenPipe}
+use Rattle.show_items.specs.Beginnings.{IsBegun}
 use Rattle.show_items.specs.Files.{AreItemsOfFile}
 use Rattle.show_items.specs.Items.{Shown, bad_after, items_text}
 use Rattle.show_items.specs.declared.pages.Stop.{Stop}
@@ -31,6 +33,16 @@ head_text manner is_first path = if heads_files manner.form manner.named then pa
 -- the items of a file were written, and it is told whether one is bad
 pub record IsWritten (manner : Manner) (text path bytes : List ℕ) (bad : Bool) : Type 0 where
   pub items : List Shown
-  pub are : AreItemsOfFile (name_of path) bytes items
+  pub are : AreItemsOfFile false (name_of path) bytes items
   pub is : text ≡ items_text manner path 0 items
   pub tells : bad ≡ bad_after false items
+
+-- of the items of a file all, or the first ones, or none
+abbrev pub AreBegun : (name bytes : List ℕ) → List Shown → Type 0
+AreBegun name bytes items = (items ≡ []) ⊎ ((early : Bool) × AreItemsOfFile early name bytes items)
+
+-- a page could not be written: a beginning of a head and of the text of these items was
+pub record StopsWriting (manner : Manner) (head path bytes : List ℕ) (before after : Option (List ℕ)) : Type 0 where
+  pub items : List Shown
+  pub are : AreBegun (name_of path) bytes items
+  pub begun : IsBegun before (append_known before (head ++ items_text manner path 0 items)) after

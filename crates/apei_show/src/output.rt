@@ -1,8 +1,10 @@
 // Standard output.
-ghost use Rattle.std.specs.Prelude.{◌≡◌, ◌≢◌, Some, None};
+ghost use Rattle.std.specs.Prelude.{◌≡◌, ◌≢◌, ◌<◌, ◌≤◌, length, Some, None, IfOk, OnErr, OnOk};
+ghost use Rattle.std.specs.Io.KnownBytes.{Appends, WriteAppends, append_known};
 ghost use Rattle.std.specs.IoError.{error_kind};
 ghost use Rattle.apei_show.specs.Faults.{one_more};
 ghost use Rattle.apei_show.specs.Outputs.{stop_of};
+ghost use Rattle.show_items.specs.Beginnings.{IsBegun};
 ghost use Rattle.show_items.specs.Stops.{Failed};
 ghost use Rattle.show_items.specs.declared.pages.Stop.TheVariants.{Memory as WantOfMemory};
 
@@ -38,6 +40,7 @@ impl<W: Write> Output<W> {
         ensures one { self.new.failures ≡ one_more self.old.failures }
         ensures reason { result ≡ stop_of (error_kind error.now) }
         ensures no_memory { result ≢ WantOfMemory }
+        ensures writer { self.new.writer ≡ self.old.writer }
     {
         let stop = stop_of(error.kind());
         self.failures = self.failures.saturating_add(1);
@@ -52,11 +55,49 @@ impl<W: Write> Pages for Output<W> {
     ghost failures = { λ output. record { count = output.failures; last = output.last } };
 
     fn write(&mut self, page: &[u8]) -> Result<(), Stop> {
-        match self.writer.write_all(page) {
+        match write_page(&mut self.writer, page) {
             Ok(()) => Ok(()),
             Err(error) => Err(self.failed(&error)),
         }
     }
+}
+
+// Writes a page. If that fails, a beginning of it may have been written.
+fn write_page<W: Write>(writer: &mut W, page: &[u8]) -> Result<(), Error>
+    ensures written { OnOk result (Appends (W.contents writer.old) (W.contents writer.new) page.now) }
+    ensures begun { OnErr result (IsBegun (W.contents writer.old)
+        (append_known (W.contents writer.old) page.now) (W.contents writer.new)) }
+{
+    let mut rest = page;
+    while !rest.is_empty() {
+        let taken = write_some(writer, rest)?;
+        rest = &rest[taken..];
+    }
+    Ok(())
+}
+
+// Writes the first bytes, and says how many. A call that a signal broke off is made again.
+fn write_some<W: Write>(writer: &mut W, bytes: &[u8]) -> Result<usize, Error>
+    ensures some { IfOk result (λ taken. 0 < taken) }
+    ensures within { IfOk result (λ taken. taken ≤ length bytes.now) }
+    ensures written { WriteAppends (W.contents writer.old) (W.contents writer.new) result bytes.now }
+{
+    for _turn in 0..u64::MAX {
+        match writer.write(bytes) {
+            Ok(0) => return Err(Error::from(ErrorKind::WriteZero)),
+            Ok(taken) => return Ok(taken),
+            Err(error) => {
+                if !is_interrupted(&error) {
+                    return Err(error);
+                }
+            }
+        }
+    }
+    Err(Error::from(ErrorKind::TimedOut))
+}
+
+fn is_interrupted(error: &Error) -> bool {
+    matches!(error.kind(), ErrorKind::Interrupted)
 }
 
 // Why no more is shown, by the kind of an error.

@@ -1,7 +1,8 @@
 // What is written of a file.
-ghost use Rattle.std.specs.Prelude.{◌≡◌, ◌++◌, List, ℕ, IfOk, OnOk};
-ghost use Rattle.std.specs.Io.KnownBytes.{Appends};
-ghost use Rattle.apei_show.specs.Outputs.{heads_files, head_text, path_text, IsWritten};
+ghost use Rattle.std.specs.Prelude.{◌≡◌, ◌++◌, [], List, ℕ, IfOk, OnOk};
+ghost use Rattle.std.specs.Io.KnownBytes.{Appends, append_known};
+ghost use Rattle.apei_show.specs.Outputs.{IsWritten, StopsWriting, heads_files, head_text, path_text};
+ghost use Rattle.show_items.specs.Beginnings.{IfStopped, IsBegun};
 ghost use Rattle.show_items.specs.Stops.{HasStop};
 
 use crate::source::name_of;
@@ -21,6 +22,8 @@ pub fn show_bytes<P: Pages>(
         × Appends (P.written pages.old) (P.written pages.new) (head_text manner is_first path.now ++ text)
         × IsWritten manner text path.now bytes.now bad) }
     ensures cause { HasStop (P.failures pages.old) (P.failures pages.new) result }
+    ensures stopped { IfStopped result (StopsWriting manner (head_text manner is_first path.now) path.now bytes.now
+        (P.written pages.old) (P.written pages.new)) }
 {
     write_head(pages, alloc, path, manner, is_first)?;
     write_items(pages, alloc, path, bytes, manner)
@@ -35,6 +38,8 @@ fn write_head<P: Pages>(
 ) -> Result<(), Stop>
     ensures written { OnOk result (Appends (P.written pages.old) (P.written pages.new) (head_text manner is_first path.now)) }
     ensures cause { HasStop (P.failures pages.old) (P.failures pages.new) result }
+    ensures stopped { IfStopped result (IsBegun (P.written pages.old)
+        (append_known (P.written pages.old) (head_text manner is_first path.now)) (P.written pages.new)) }
 {
     if !heads_files(&manner) {
         return Ok(());
@@ -75,6 +80,8 @@ fn write_items<P: Pages>(
     ensures written { IfOk result (λ bad. (text : List ℕ)
         × Appends (P.written pages.old) (P.written pages.new) text × IsWritten manner text path.now bytes.now bad) }
     ensures cause { HasStop (P.failures pages.old) (P.failures pages.new) result }
+    ensures stopped { IfStopped result (StopsWriting manner [] path.now bytes.now
+        (P.written pages.old) (P.written pages.new)) }
 {
     let mut sheet = Sheet::new(alloc, path, manner);
     show_file(&mut sheet, pages, name_of(path), bytes)?;
