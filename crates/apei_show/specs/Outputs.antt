@@ -1,8 +1,8 @@
 -- What is written of a file, and why no more is.
-use Rattle.std.specs.Prelude.{◌≡◌, ◌⊎◌, ℕ, Bool, false, if◌then◌else◌, List, [], ◌++◌, codes, Option}
+use Rattle.std.specs.Prelude.{◌≡◌, ◌⊎◌, ℕ, Bool, true, false, if◌then◌else◌, List, [], ◌++◌, codes, Option}
 use Rattle.std.specs.Io.KnownBytes.{append_known}
 use Rattle.std.specs.declared.io.ErrorKind.{ErrorKind}
-use Rattle.std.specs.declared.io.ErrorKind.TheVariants.{BrokenPipe}
+use Rattle.std.specs.declared.io.ErrorKind.TheVariants.{BrokenPipe, Interrupted}
 use Rattle.show_items.specs.Beginnings.{IsBegun}
 use Rattle.show_items.specs.Files.{AreItemsOfFile}
 use Rattle.show_items.specs.Items.{Shown, bad_after, items_text}
@@ -17,6 +17,11 @@ use Rattle.apei_show.specs.Names.{name_of}
 abbrev pub stop_of : ErrorKind → Stop
 stop_of BrokenPipe = Closed
 stop_of kind = Output
+
+-- a signal broke off the call
+abbrev pub is_interrupted : ErrorKind → Bool
+is_interrupted Interrupted = true
+is_interrupted kind = false
 
 -- the line of a file, with an empty line before all but the first
 abbrev pub path_text : (is_first : Bool) → (path : List ℕ) → List ℕ

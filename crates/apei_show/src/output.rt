@@ -3,7 +3,7 @@ ghost use Rattle.std.specs.Prelude.{◌≡◌, ◌≢◌, ◌<◌, ◌≤◌, le
 ghost use Rattle.std.specs.Io.KnownBytes.{Appends, WriteAppends, append_known};
 ghost use Rattle.std.specs.IoError.{error_kind};
 ghost use Rattle.apei_show.specs.Faults.{one_more};
-ghost use Rattle.apei_show.specs.Outputs.{stop_of};
+ghost use Rattle.apei_show.specs.Outputs.{is_interrupted, stop_of};
 ghost use Rattle.show_items.specs.Beginnings.{IsBegun};
 ghost use Rattle.show_items.specs.Stops.{Failed};
 ghost use Rattle.show_items.specs.declared.pages.Stop.TheVariants.{Memory as WantOfMemory};
@@ -96,7 +96,10 @@ fn write_some<W: Write>(writer: &mut W, bytes: &[u8]) -> Result<usize, Error>
     Err(Error::from(ErrorKind::TimedOut))
 }
 
-fn is_interrupted(error: &Error) -> bool {
+// Whether a signal broke off a call.
+fn is_interrupted(error: &Error) -> bool
+    ensures { result ≡ is_interrupted (error_kind error.now) }
+{
     matches!(error.kind(), ErrorKind::Interrupted)
 }
 
