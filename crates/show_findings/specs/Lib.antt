@@ -4,4 +4,5 @@ pub mod Names
 pub mod Shapes
 pub mod Signatures
 pub mod Places
+pub mod Sentences
 pub mod Subjects

@@ -1,5 +1,6 @@
 // Where an error was, by the body of its section (UEFI 2.8, N.2.4 to N.2.7).
-ghost use Rattle.std.specs.Prelude.{◌<◌};
+ghost use Rattle.std.specs.Prelude.{◌<◌, OnOk};
+ghost use Rattle.show_findings.specs.Sentences.{Grows};
 
 use crate::subjects::Subject;
 use crate::times::add_seconds;
@@ -7,7 +8,9 @@ use crate::{seen_u8, seen_u16, seen_u32, seen_u64};
 use std::alloc::AllocError;
 
 /// Adds where an error was.
-pub(crate) fn add_place(out: &mut String, subject: Subject, body: &[u8]) -> Result<(), AllocError> {
+pub(crate) fn add_place(out: &mut String, subject: Subject, body: &[u8]) -> Result<(), AllocError>
+    ensures { OnOk result (Grows out.old out.new) }
+{
     match subject {
         Subject::Memory => add_memory(out, body),
         Subject::ProcessorGeneric => add_processor(out, body),
@@ -25,7 +28,9 @@ fn has(valid: u64, bit: u32) -> bool
     valid >> bit & 1 == 1
 }
 
-fn add_memory(out: &mut String, body: &[u8]) -> Result<(), AllocError> {
+fn add_memory(out: &mut String, body: &[u8]) -> Result<(), AllocError>
+    ensures { OnOk result (Grows out.old out.new) }
+{
     let valid = seen_u64(body, 0);
     add_module(out, valid, body)?;
     if body.len() >= 24 && has(valid, 1) {
@@ -36,7 +41,9 @@ fn add_memory(out: &mut String, body: &[u8]) -> Result<(), AllocError> {
 }
 
 // The node, the card and the module, each where it is valid and the body reaches so far.
-fn add_module(out: &mut String, valid: u64, body: &[u8]) -> Result<(), AllocError> {
+fn add_module(out: &mut String, valid: u64, body: &[u8]) -> Result<(), AllocError>
+    ensures { OnOk result (Grows out.old out.new) }
+{
     let has_node = has(valid, 3) && body.len() >= 34;
     let has_card = has(valid, 4) && body.len() >= 36;
     let has_module = has(valid, 5) && body.len() >= 38;
@@ -48,19 +55,20 @@ fn add_module(out: &mut String, valid: u64, body: &[u8]) -> Result<(), AllocErro
     add_part(out, has_module, "module", seen_u16(body, 36))
 }
 
-fn add_part(out: &mut String, is_valid: bool, name: &str, number: u16) -> Result<(), AllocError> {
+fn add_part(out: &mut String, is_valid: bool, name: &str, number: u16) -> Result<(), AllocError>
+    ensures { OnOk result (Grows out.old out.new) }
+{
     if is_valid {
         write!(out, " {name} {number}")?;
     }
     Ok(())
 }
 
-fn add_processor(out: &mut String, body: &[u8]) -> Result<(), AllocError> {
+fn add_processor(out: &mut String, body: &[u8]) -> Result<(), AllocError>
+    ensures { OnOk result (Grows out.old out.new) }
+{
     let valid = seen_u64(body, 0);
-    if body.len() >= 160 && has(valid, 8) {
-        let id = seen_u64(body, 152);
-        write!(out, ", processor {id:#x}")?;
-    }
+    add_processor_id(out, valid, body)?;
     if body.len() >= 168 && has(valid, 9) {
         let address = seen_u64(body, 160);
         write!(out, ", address {address:#x}")?;
@@ -68,7 +76,19 @@ fn add_processor(out: &mut String, body: &[u8]) -> Result<(), AllocError> {
     Ok(())
 }
 
-fn add_x86(out: &mut String, body: &[u8]) -> Result<(), AllocError> {
+fn add_processor_id(out: &mut String, valid: u64, body: &[u8]) -> Result<(), AllocError>
+    ensures { OnOk result (Grows out.old out.new) }
+{
+    if body.len() >= 160 && has(valid, 8) {
+        let id = seen_u64(body, 152);
+        write!(out, ", processor {id:#x}")?;
+    }
+    Ok(())
+}
+
+fn add_x86(out: &mut String, body: &[u8]) -> Result<(), AllocError>
+    ensures { OnOk result (Grows out.old out.new) }
+{
     if body.len() >= 16 && has(seen_u64(body, 0), 0) {
         let id = seen_u64(body, 8);
         write!(out, ", APIC {id}")?;
@@ -76,7 +96,9 @@ fn add_x86(out: &mut String, body: &[u8]) -> Result<(), AllocError> {
     Ok(())
 }
 
-fn add_arm(out: &mut String, body: &[u8]) -> Result<(), AllocError> {
+fn add_arm(out: &mut String, body: &[u8]) -> Result<(), AllocError>
+    ensures { OnOk result (Grows out.old out.new) }
+{
     if body.len() >= 24 && has(u64::from(seen_u32(body, 0)), 0) {
         let affinity = seen_u64(body, 16);
         write!(out, ", MPIDR {affinity:#x}")?;
@@ -84,7 +106,9 @@ fn add_arm(out: &mut String, body: &[u8]) -> Result<(), AllocError> {
     Ok(())
 }
 
-fn add_pci_express(out: &mut String, body: &[u8]) -> Result<(), AllocError> {
+fn add_pci_express(out: &mut String, body: &[u8]) -> Result<(), AllocError>
+    ensures { OnOk result (Grows out.old out.new) }
+{
     if body.len() >= 40 && has(seen_u64(body, 0), 3) {
         let segment = seen_u16(body, 33);
         let bus = seen_u8(body, 35);
@@ -99,7 +123,9 @@ fn add_pci_express(out: &mut String, body: &[u8]) -> Result<(), AllocError> {
 }
 
 // The processor and the bank of a machine check, and its address where the bank has one, as Linux 6.12 keeps them.
-fn add_bank(out: &mut String, body: &[u8]) -> Result<(), AllocError> {
+fn add_bank(out: &mut String, body: &[u8]) -> Result<(), AllocError>
+    ensures { OnOk result (Grows out.old out.new) }
+{
     if body.len() < 72 {
         return Ok(());
     }
@@ -114,7 +140,9 @@ fn add_bank(out: &mut String, body: &[u8]) -> Result<(), AllocError> {
 }
 
 /// Adds the sentence of a machine check that Linux stored, by its body alone.
-pub fn add_machine_check(out: &mut String, body: &[u8]) -> Result<(), AllocError> {
+pub fn add_machine_check(out: &mut String, body: &[u8]) -> Result<(), AllocError>
+    ensures { OnOk result (Grows out.old out.new) }
+{
     out.push_str("machine check")?;
     add_bank(out, body)?;
     let seconds = seen_u64(body, 48);
@@ -126,7 +154,9 @@ pub fn add_machine_check(out: &mut String, body: &[u8]) -> Result<(), AllocError
 }
 
 /// Adds the sentence of a kernel's log that Linux stored.
-pub fn add_dmesg(out: &mut String, body: &[u8]) -> Result<(), AllocError> {
+pub fn add_dmesg(out: &mut String, body: &[u8]) -> Result<(), AllocError>
+    ensures { OnOk result (Grows out.old out.new) }
+{
     let len = body.len();
     write!(out, "kernel log that Linux stored, {len} bytes")
 }

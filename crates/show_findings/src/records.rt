@@ -1,6 +1,7 @@
 // The sentences of error records and error status blocks.
-ghost use Rattle.std.specs.Prelude.{◌≡◌};
+ghost use Rattle.std.specs.Prelude.{◌≡◌, OnOk};
 ghost use Rattle.show_findings.specs.Subjects.{is_of_linux};
+ghost use Rattle.show_findings.specs.Sentences.{Grows};
 
 use crate::bodies::add_place;
 use crate::subjects::{add_subject, subject_of};
@@ -40,7 +41,9 @@ pub fn is_of_linux(bytes: &[u8]) -> bool
 }
 
 /// Adds the sentence of a record: what happened, how severe it was, where, and when.
-pub fn add_record(out: &mut String, record: &[u8]) -> Result<(), AllocError> {
+pub fn add_record(out: &mut String, record: &[u8]) -> Result<(), AllocError>
+    ensures { OnOk result (Grows out.old out.new) }
+{
     let len = record.len();
     if len < RECORD {
         return write!(out, "error record cut off after {len} bytes");
@@ -62,7 +65,9 @@ pub fn add_record(out: &mut String, record: &[u8]) -> Result<(), AllocError> {
     Ok(())
 }
 
-fn add_severity(out: &mut String, name: Option<&str>) -> Result<(), AllocError> {
+fn add_severity(out: &mut String, name: Option<&str>) -> Result<(), AllocError>
+    ensures { OnOk result (Grows out.old out.new) }
+{
     match name {
         Some(name) => write!(out, "{name} "),
         None => Ok(()),
@@ -80,7 +85,9 @@ fn main_section(record: &[u8]) -> Option<Section<'_>> {
     section_at(record, 0)
 }
 
-fn add_section(out: &mut String, section: &Section<'_>) -> Result<(), AllocError> {
+fn add_section(out: &mut String, section: &Section<'_>) -> Result<(), AllocError>
+    ensures { OnOk result (Grows out.old out.new) }
+{
     if section.descriptor.len() < 72 {
         return Ok(());
     }
@@ -88,14 +95,18 @@ fn add_section(out: &mut String, section: &Section<'_>) -> Result<(), AllocError
     add_body(out, &kind, section.body)
 }
 
-fn add_body(out: &mut String, kind: &Guid, body: &[u8]) -> Result<(), AllocError> {
+fn add_body(out: &mut String, kind: &Guid, body: &[u8]) -> Result<(), AllocError>
+    ensures { OnOk result (Grows out.old out.new) }
+{
     let subject = subject_of(kind);
     add_subject(out, subject, kind)?;
     add_place(out, subject, body)
 }
 
 /// Adds the sentence of an error status block.
-pub fn add_block(out: &mut String, block: &[u8]) -> Result<(), AllocError> {
+pub fn add_block(out: &mut String, block: &[u8]) -> Result<(), AllocError>
+    ensures { OnOk result (Grows out.old out.new) }
+{
     let len = block.len();
     if len < BLOCK {
         return write!(out, "error status block cut off after {len} bytes");

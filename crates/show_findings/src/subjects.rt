@@ -1,7 +1,8 @@
 // What a section is about.
-ghost use Rattle.std.specs.Prelude.{◌≡◌, option_map};
+ghost use Rattle.std.specs.Prelude.{◌≡◌, option_map, OnOk};
 ghost use Rattle.apei_bytes.specs.Guid.{guid_text};
 ghost use Rattle.show_findings.specs.Subjects.{other_title, section_title};
+ghost use Rattle.show_findings.specs.Sentences.{Grows};
 
 use apei_bytes::Guid;
 use cper_frame::section_name;
@@ -99,11 +100,9 @@ fn other_title(text: &[u8; 36]) -> Option<&'static str>
 }
 
 /// Adds what kind of error a section is about.
-pub(crate) fn add_subject(
-    out: &mut String,
-    subject: Subject,
-    kind: &Guid,
-) -> Result<(), AllocError> {
+pub(crate) fn add_subject(out: &mut String, subject: Subject, kind: &Guid) -> Result<(), AllocError>
+    ensures { OnOk result (Grows out.old out.new) }
+{
     match subject {
         Subject::Memory => out.push_str("memory error"),
         Subject::ProcessorGeneric | Subject::X86Processor | Subject::ArmProcessor => {
@@ -122,7 +121,9 @@ pub(crate) fn add_subject(
 }
 
 /// Adds the text of a GUID.
-pub(crate) fn add_guid(out: &mut String, guid: &Guid) -> Result<(), AllocError> {
+pub(crate) fn add_guid(out: &mut String, guid: &Guid) -> Result<(), AllocError>
+    ensures { OnOk result (Grows out.old out.new) }
+{
     let mut text = [0; 36];
     guid.text(&mut text);
     match from_utf8(&text) {

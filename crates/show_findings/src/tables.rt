@@ -1,10 +1,15 @@
 // The sentences of tables.
+ghost use Rattle.std.specs.Prelude.{OnOk};
+ghost use Rattle.show_findings.specs.Sentences.{Grows};
+
 use crate::{seen_u32, seen_u64};
 use std::alloc::AllocError;
 use std::str::from_utf8;
 
 /// Adds the sentence of a table.
-pub fn add_table(out: &mut String, table: &[u8]) -> Result<(), AllocError> {
+pub fn add_table(out: &mut String, table: &[u8]) -> Result<(), AllocError>
+    ensures { OnOk result (Grows out.old out.new) }
+{
     let len = table.len();
     let signature = match table {
         [a, b, c, d, ..] => [*a, *b, *c, *d],
@@ -30,12 +35,24 @@ pub fn add_table(out: &mut String, table: &[u8]) -> Result<(), AllocError> {
                 "Boot Error Record Table, a region of {region} bytes at {address:#x}"
             )
         }
-        other => {
-            out.push_str("table ")?;
-            if let Ok(name) = from_utf8(other) {
-                out.push_str(name)?;
-            }
-            write!(out, ", {len} bytes, none of those of errors")
-        }
+        other => add_other(out, other, len),
+    }
+}
+
+// A table that has another signature than those of errors.
+fn add_other(out: &mut String, signature: &[u8; 4], len: usize) -> Result<(), AllocError>
+    ensures { OnOk result (Grows out.old out.new) }
+{
+    out.push_str("table ")?;
+    add_signature(out, signature)?;
+    write!(out, ", {len} bytes, none of those of errors")
+}
+
+fn add_signature(out: &mut String, signature: &[u8; 4]) -> Result<(), AllocError>
+    ensures { OnOk result (Grows out.old out.new) }
+{
+    match from_utf8(signature) {
+        Ok(name) => out.push_str(name),
+        Err(_) => Ok(()),
     }
 }
