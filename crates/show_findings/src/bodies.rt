@@ -1,6 +1,6 @@
 // Where an error was, by the body of its section (UEFI 2.8, N.2.4 to N.2.7).
 ghost use Rattle.std.specs.Prelude.{◌<◌, OnOk};
-ghost use Rattle.show_findings.specs.Sentences.{Grows};
+ghost use Rattle.show_findings.specs.Sentences.{Grows, Says};
 
 use crate::subjects::Subject;
 use crate::times::add_seconds;
@@ -141,7 +141,7 @@ fn add_bank(out: &mut String, body: &[u8]) -> Result<(), AllocError>
 
 /// Adds the sentence of a machine check that Linux stored, by its body alone.
 pub fn add_machine_check(out: &mut String, body: &[u8]) -> Result<(), AllocError>
-    ensures { OnOk result (Grows out.old out.new) }
+    ensures { OnOk result (Says out.old out.new) }
 {
     out.push_str("machine check")?;
     add_bank(out, body)?;
@@ -155,7 +155,7 @@ pub fn add_machine_check(out: &mut String, body: &[u8]) -> Result<(), AllocError
 
 /// Adds the sentence of a kernel's log that Linux stored.
 pub fn add_dmesg(out: &mut String, body: &[u8]) -> Result<(), AllocError>
-    ensures { OnOk result (Grows out.old out.new) }
+    ensures { OnOk result (Says out.old out.new) }
 {
     let len = body.len();
     write!(out, "kernel log that Linux stored, {len} bytes")

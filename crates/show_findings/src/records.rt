@@ -1,7 +1,7 @@
 // The sentences of error records and error status blocks.
 ghost use Rattle.std.specs.Prelude.{◌≡◌, OnOk};
 ghost use Rattle.show_findings.specs.Subjects.{is_of_linux};
-ghost use Rattle.show_findings.specs.Sentences.{Grows};
+ghost use Rattle.show_findings.specs.Sentences.{Grows, Says};
 
 use crate::bodies::add_place;
 use crate::subjects::{add_subject, subject_of};
@@ -42,7 +42,7 @@ pub fn is_of_linux(bytes: &[u8]) -> bool
 
 /// Adds the sentence of a record: what happened, how severe it was, where, and when.
 pub fn add_record(out: &mut String, record: &[u8]) -> Result<(), AllocError>
-    ensures { OnOk result (Grows out.old out.new) }
+    ensures { OnOk result (Says out.old out.new) }
 {
     let len = record.len();
     if len < RECORD {
@@ -86,17 +86,17 @@ fn main_section(record: &[u8]) -> Option<Section<'_>> {
 }
 
 fn add_section(out: &mut String, section: &Section<'_>) -> Result<(), AllocError>
-    ensures { OnOk result (Grows out.old out.new) }
+    ensures { OnOk result (Says out.old out.new) }
 {
     if section.descriptor.len() < 72 {
-        return Ok(());
+        return out.push_str("error in a section that is cut off");
     }
     let kind = guid_at(section.descriptor, 16);
     add_body(out, &kind, section.body)
 }
 
 fn add_body(out: &mut String, kind: &Guid, body: &[u8]) -> Result<(), AllocError>
-    ensures { OnOk result (Grows out.old out.new) }
+    ensures { OnOk result (Says out.old out.new) }
 {
     let subject = subject_of(kind);
     add_subject(out, subject, kind)?;
@@ -105,7 +105,7 @@ fn add_body(out: &mut String, kind: &Guid, body: &[u8]) -> Result<(), AllocError
 
 /// Adds the sentence of an error status block.
 pub fn add_block(out: &mut String, block: &[u8]) -> Result<(), AllocError>
-    ensures { OnOk result (Grows out.old out.new) }
+    ensures { OnOk result (Says out.old out.new) }
 {
     let len = block.len();
     if len < BLOCK {
@@ -116,7 +116,7 @@ pub fn add_block(out: &mut String, block: &[u8]) -> Result<(), AllocError>
         return out.push_str("error status block without entries");
     };
     if entry.head.len() < 64 {
-        return Ok(());
+        return out.push_str("error in an entry that is cut off");
     }
     add_body(out, &guid_at(entry.head, 0), entry.body)?;
     if entry.head.len() >= 72 && seen_u8(entry.head, 22) & ENTRY_HAS_TIME != 0 {

@@ -2,7 +2,7 @@
 ghost use Rattle.std.specs.Prelude.{◌≡◌, option_map, OnOk};
 ghost use Rattle.apei_bytes.specs.Guid.{guid_text};
 ghost use Rattle.show_findings.specs.Subjects.{other_title, section_title};
-ghost use Rattle.show_findings.specs.Sentences.{Grows};
+ghost use Rattle.show_findings.specs.Sentences.{Grows, Says};
 
 use apei_bytes::Guid;
 use cper_frame::section_name;
@@ -101,7 +101,7 @@ fn other_title(text: &[u8; 36]) -> Option<&'static str>
 
 /// Adds what kind of error a section is about.
 pub(crate) fn add_subject(out: &mut String, subject: Subject, kind: &Guid) -> Result<(), AllocError>
-    ensures { OnOk result (Grows out.old out.new) }
+    ensures { OnOk result (Says out.old out.new) }
 {
     match subject {
         Subject::Memory => out.push_str("memory error"),

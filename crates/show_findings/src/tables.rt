@@ -1,6 +1,6 @@
 // The sentences of tables.
 ghost use Rattle.std.specs.Prelude.{OnOk};
-ghost use Rattle.show_findings.specs.Sentences.{Grows};
+ghost use Rattle.show_findings.specs.Sentences.{Grows, Says};
 
 use crate::{seen_u32, seen_u64};
 use std::alloc::AllocError;
@@ -8,7 +8,7 @@ use std::str::from_utf8;
 
 /// Adds the sentence of a table.
 pub fn add_table(out: &mut String, table: &[u8]) -> Result<(), AllocError>
-    ensures { OnOk result (Grows out.old out.new) }
+    ensures { OnOk result (Says out.old out.new) }
 {
     let len = table.len();
     let signature = match table {
@@ -41,7 +41,7 @@ pub fn add_table(out: &mut String, table: &[u8]) -> Result<(), AllocError>
 
 // A table that has another signature than those of errors.
 fn add_other(out: &mut String, signature: &[u8; 4], len: usize) -> Result<(), AllocError>
-    ensures { OnOk result (Grows out.old out.new) }
+    ensures { OnOk result (Says out.old out.new) }
 {
     out.push_str("table ")?;
     add_signature(out, signature)?;
