@@ -1,3 +1,4 @@
+pub mod Terms
 pub mod LineLemmas
 pub mod TurnLemmas
 pub mod NumberLemmas

@@ -18,9 +18,10 @@ use Rattle.hub_script.specs.Replies.{refused, reply_line, text_of_replies, words
 use Rattle.script_text.specs.Shown.{IsPartWritten}
 use Rattle.script_lines.specs.Streams.{stream_of}
 use Rattle.hub_script.specs.Stages.{HubStage, Waiting, Serving}
-use Rattle.hub_script.specs.Plays.{Plays, IsRefused, source_of, AllNamed, Turned, NoTurn, OneMore, AllTurned}
+use Rattle.hub_script.specs.Plays.{Plays, OnlySays, source_of, AllNamed, Turned, NoTurn, OneMore, AllTurned}
 use Rattle.script_text.specs.Turns.{side_of}
-use Rattle.hub_script.specs.Lines.{PlaysLine, PlaysUnwritten, TextIs, IsLeft, LeftOfTurns, AtLast, InBlock}
+use Rattle.hub_script.specs.Lines.{PlaysLine, PlaysUnwritten, TextIs, IsLeft, LeftOfTurns, AtLast, InBlock, IsTable}
+use Rattle.hub_script.proofs.Terms.{GivesTable}
 use Rattle.hub_script.specs.Made.{MakesReply}
 use Rattle.script_text.proofs.ShownLemmas.{flat_map-append}
 
@@ -35,7 +36,7 @@ asks_hub (heard source) = true
 asks_hub (removal source at) = true
 
 while_waiting : {L : Type 0} (hearing : L → Hearing) (listeners : List L) (line : Line) (said : List (List ℕ)) (calls : List Call) (new : HubStage L) → asks_hub line ≡ true
-    → IsRefused NoHub (Waiting listeners) said calls new → Plays hearing (Waiting listeners) line said calls new
+    → OnlySays (refused (words_of_refusal NoHub) ∷ []) (Waiting listeners) said calls new → Plays hearing (Waiting listeners) line said calls new
 while_waiting hearing listeners blank said calls new asks is = absurd (cc asks)
 while_waiting hearing listeners (comment rest) said calls new asks is = absurd (cc asks)
 while_waiting hearing listeners (hest hex) said calls new asks is = absurd (cc asks)
@@ -302,3 +303,12 @@ text_is hearing told_sink old new written now text (Error source hex) is plays =
 text_is hearing told_sink old new written now text (TurnsOf pairs) is plays = record { line = turns pairs.now; written = is; made = plays }
 text_is hearing told_sink old new written now text (Heard source) is plays = record { line = heard source; written = is; made = plays }
 text_is hearing told_sink old new written now text (Drop source at) is plays = record { line = removal source at; written = is; made = plays }
+
+-- and its table, where it gives one
+pub gives_table : (text : List ℕ) (line : HubLine) → IsText text line → IsTable line → GivesTable text
+gives_table text Blank is table = absurd table
+gives_table text (Hest hex) is table = (hex.now, is, table)
+gives_table text (Error source hex) is table = absurd table
+gives_table text (TurnsOf pairs) is table = absurd table
+gives_table text (Heard source) is table = absurd table
+gives_table text (Drop source at) is table = absurd table

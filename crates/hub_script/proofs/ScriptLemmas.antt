@@ -14,9 +14,10 @@ use Rattle.hub_script.specs.HubGrammar.{IsLine}
 use Rattle.hub_script.specs.HubText.{IsWritten}
 use Rattle.hub_script.specs.Replies.{text_of_replies, reply_line}
 use Rattle.script_lines.specs.Streams.{stream_of}
-use Rattle.hub_script.specs.Stages.{HubStage, Waiting, IsWaiting, members_in}
+use Rattle.hub_script.specs.Stages.{HubStage, Waiting, members_in}
 use Rattle.hub_script.specs.Plays.{Plays}
-use Rattle.hub_script.specs.Lines.{PlaysLine, PlaysUnwritten, TextIs, GivesTable, PairsAreNamed}
+use Rattle.hub_script.specs.Lines.{PlaysLine, PlaysUnwritten, TextIs, PairsAreNamed}
+use Rattle.hub_script.proofs.Terms.{GivesTable}
 use Rattle.hub_script.specs.History.{Played, Follows, stage_behind, text_of_played}
 use Rattle.hub_script.specs.Scripts.{IsUnwritten, PlaysScript, ServesScript}
 use Rattle.script_lines.specs.Ends.{EndsReading, IsBadFrom, fault_of}
@@ -136,7 +137,7 @@ module _ {L : Type 0} (hearing : L → Hearing) (told_source told_sink : Type 0)
     }
 
     -- there was no memory for it
-    pub ends_memory : (new : HubStage L) (now : List ℕ) → new ≡ mid → now ≡ middle → (told_source → StandsAt script so_far.lines b.number (last_line b)) → GivesTable text → IsWaiting mid
+    pub ends_memory : (new : HubStage L) (now : List ℕ) → new ≡ mid → now ≡ middle → (told_source → StandsAt script so_far.lines b.number (last_line b)) → GivesTable text → (listeners : List L) × (mid ≡ Waiting listeners)
         → PlaysScript hearing (stream_of told_source script rest_now) (stream_of told_sink written now) old new Memory
     ends_memory new now stays kept stands table waits = record {
       lines = so_far.lines;
@@ -144,7 +145,7 @@ module _ {L : Type 0} (hearing : L → Hearing) (told_source told_sink : Type 0)
       played = so_far.played;
       follows = subst (Follows hearing old so_far.played) (sym stays) so_far.follows;
       are = (so_far.are, λ told. kept ∙ so_far.text told);
-      waits = λ memory. subst IsWaiting (sym stays) waits;
+      waits = λ memory. (waits.0, stays ∙ waits.1);
     }
 
 -- from listeners that wait on

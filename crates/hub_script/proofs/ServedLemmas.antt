@@ -1,5 +1,6 @@
 -- Lines that were played one after another make one list of calls of one hub.
 use Rattle.std.proofs.Common.{◌≡◌, ℕ, ◌⊎◌, inl, inr, List, [], ◌∷◌, ◌++◌, refl, sym, ap, subst}
+use Rattle.std.specs.List.{flat_map}
 use Rattle.apei_notify.specs.Telling.{Hearing}
 use Rattle.hest_sources.specs.declared.sources.HestSource.{HestSource}
 use Rattle.ghes_ack.specs.declared.events.Event.{Event}
@@ -10,7 +11,7 @@ use Rattle.hub_script.specs.HubGrammar.{Line, blank, comment, hest, error, turns
 use Rattle.hub_script.specs.Stages.{HubStage, Waiting, Serving}
 use Rattle.hub_script.specs.Plays.{Plays, source_of, NoTable, NoOpening, Opened, NoSource, NotTaken, Queued, Turned, NoTurn, OneMore, NotNamed, AllTurned, NoneToCount, Counted, NoneToDrop, NoListener, Dropped}
 use Rattle.script_text.specs.Turns.{side_of}
-use Rattle.hub_script.specs.History.{Played, Follows, calls_of, AreServed, NoHub, ByHub}
+use Rattle.hub_script.specs.History.{Played, Follows, AreServed, NoHub, ByHub}
 
 -- calls, and then calls
 do-append : {L : Type 0} (hearing : L → Hearing) (one two : List Call) (first mid last : HubState L) → DoAll hearing one first mid → DoAll hearing two mid last → DoAll hearing (one ++ two) first last
@@ -58,6 +59,10 @@ makes_calls hearing hub (removal source at) said calls new is = elim is as (λ s
   | NoListener members within there none ↦ no_calls hearing hub [] (Serving hub) refl refl
   | Dropped members new within there some removes ↦ record { after = new; serving = refl; does = do-one hearing (Removes source at) hub new removes }
 ]
+
+-- all calls of the hub, in order
+abbrev calls_of : {L : Type 0} → List (Played L) → List Call
+calls_of {L} lines = flat_map (λ (played : Played L). played.calls) lines
 
 -- all lines from a hub that serves on
 all_calls : {L : Type 0} (hearing : L → Hearing) (hub : HubState L) (played : List (Played L)) (last : HubStage L) → Follows hearing (Serving hub) played last → MakesCalls hearing hub (calls_of played) last

@@ -26,10 +26,11 @@ use Rattle.hub_script.specs.HubGrammar.{Line, hest, error, turns, heard, removal
 use Rattle.hub_script.specs.RefusalWords.{words_of_refusal, HubHasWords}
 use Rattle.hub_script.specs.declared.refusals.HubRefusal.TheVariants.{Open, Table, NoHub, Nobody, Submit}
 use Rattle.hub_script.specs.declared.refusals.HubRefusal.TheVariants as why_not
-use Rattle.hub_script.specs.Replies.{refused, reply_line, words_of_opened, words_of_queued, words_of_heard}
+use Rattle.hub_script.specs.Replies.{refused, reply_line, words_of_heard}
+use Rattle.hub_script.proofs.Terms.{words_of_opened, words_of_queued}
 use Rattle.script_lines.specs.Streams.{stream_of}
-use Rattle.hub_script.specs.Stages.{HubStage, Waiting, Serving, IsWaiting, stage_in}
-use Rattle.hub_script.specs.Plays.{Plays, listed, most_listed, named_at, NoTable, NoOpening, Opened, NoSource, NotTaken, Queued, NotNamed, NoneToCount, Counted, NoneToDrop, NoListener, Dropped}
+use Rattle.hub_script.specs.Stages.{HubStage, Waiting, Serving, stage_in}
+use Rattle.hub_script.specs.Plays.{Plays, listed, named_at, NoTable, NoOpening, Opened, NoSource, NotTaken, Queued, NotNamed, NoneToCount, Counted, NoneToDrop, NoListener, Dropped}
 use Rattle.hub_script.specs.Made.{MakesReply, OpensFor, NotOpened, IsOpen}
 use Rattle.script_text.specs.Shown.{IsPartWritten}
 use Rattle.hub_script.specs.Lines.{PlaysLine, PlaysUnwritten}
@@ -43,13 +44,10 @@ some_at (x ∷ xs) (suc i) within = some_at xs i (omega (arith, within))
 take_count : {X : Type 0} (k n : ℕ) (xs : List X) → n ≡ min (length xs) k → length (take k xs) ≡ n
 take_count k n xs is = let l = length-take k xs in omega (arith, l, is)
 
-most_is : most_listed ≡ 2 ^ 32 - 1
-unfolding most_listed
-most_is = refl
-
 -- the listeners that a hub counts
 pub listed_count : {X : Type 0} (members : List X) (n : ℕ) → n ≡ min (length members) (2 ^ 32 - 1) → length (listed members) ≡ n
-listed_count members n is = take_count most_listed n members (is ∙ ap (min (length members)) (sym most_is))
+unfolding listed
+listed_count members n is = take_count (2 ^ 32 - 1) n members is
 
 taken_is : {X : Type 0} (k n : ℕ) (xs : List X) → n ≡ min (length xs) k → take n xs ≡ take k xs
 taken_is k n xs is = ap (λ (m : ℕ). take m xs) (is ∙ swapped (length xs) k) ∙ take_min k xs
@@ -58,7 +56,8 @@ taken_is k n xs is = ap (λ (m : ℕ). take m xs) (is ∙ swapped (length xs) k)
     swapped a b = omega arith
 
 pub listed_is : {X : Type 0} (members : List X) (n : ℕ) → n ≡ min (length members) (2 ^ 32 - 1) → take n members ≡ listed members
-listed_is members n is = taken_is most_listed n members (is ∙ ap (min (length members)) (sym most_is))
+unfolding listed
+listed_is members n is = taken_is (2 ^ 32 - 1) n members is
 
 -- a number from a call, as another type has it
 pub not_below : (a b n k : ℕ) → a ≡ b → b ≡ n → a ≤ k → n ≤ k
@@ -68,8 +67,9 @@ pub is_below : (a b n k : ℕ) → a ≡ b → b ≡ n → k < a → k < n
 is_below a b n k one other h = omega (arith, one, other, h)
 
 -- without a hub the listeners wait
-pub still_waiting : {X : Type 0} {H : X → Type 0} (hub : Option (Hub X H)) (listeners : List (DynBox X Global H)) → hub ≡ None → IsWaiting (stage_in hub listeners)
-still_waiting {X} {H} hub listeners none = subst (λ (o : Option (Hub X H)). IsWaiting (stage_in o listeners)) (sym none) tt
+pub still_waiting : {X : Type 0} {H : X → Type 0} (hub : Option (Hub X H)) (listeners : List (DynBox X Global H)) → hub ≡ None
+    → (waiting : List (DynBox X Global H)) × (stage_in hub listeners ≡ Waiting waiting)
+still_waiting {X} {H} hub listeners none = (listeners, ap (λ (o : Option (Hub X H)). stage_in o listeners) none)
 
 -- the bytes of a line, lent
 pub as_lent : (hex bytes lent : List ℕ) (len : ℕ) → decode_of hex ≡ Ok (take len bytes) → lent ≡ bytes → decode_of hex ≡ Ok (take len lent)

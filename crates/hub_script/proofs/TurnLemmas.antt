@@ -1,11 +1,17 @@
 -- Where turns break off.
 use Rattle.std.proofs.Common.{◌≡◌, ◌∙◌, ℕ, ◌+◌, ◌/◌, ◌%◌, ◌<◌, ◌≤◌, ◌⊎◌, inl, inr, ◌==◌, Bool, true, false, cond, List, [], ◌∷◌, ◌++◌, length, take, get_or, sym, ap, subst, arith, append_assoc}
-use Rattle.std.specs.Prelude.{IsTrue}
+use Rattle.std.specs.Prelude.{IsTrue, ◌||◌, ◌&&◌, nat_lt, not}
 use Rattle.std.proofs.lemmas.Bool.{cases_lt}
 use Rattle.std.proofs.lemmas.Bool.Decides.{nat_tests}
 use Rattle.std.proofs.lemmas.List.{length-take-le, length-append, get_or-take, get_or_append_left, get_or_at}
 use Rattle.script_lines.specs.Columns.{Begins, Breaks}
-use Rattle.hub_script.specs.Turns.{is_source, is_side, may_stand, AreTurns}
+use Rattle.hub_script.specs.Turns.{may_stand, AreTurns}
+
+abbrev is_source : ℕ → Bool
+is_source c = (not (nat_lt c 48) && nat_lt c 58) || (not (nat_lt c 97) && nat_lt c 103)
+
+abbrev is_side : ℕ → Bool
+is_side c = c == 70 || c == 82
 
 -- bytes that may stand where they stand
 abbrev pub AreGood : List ℕ → ℕ → Type 0

@@ -32,10 +32,6 @@ abbrev pub stage_behind : {L : Type 0} → HubStage L → List (Played L) → Hu
 stage_behind first [] = first
 stage_behind first (played ∷ rest) = stage_behind played.left rest
 
--- all calls of the hub, in order
-abbrev pub calls_of : {L : Type 0} → List (Played L) → List Call
-calls_of {L} lines = flat_map (λ (played : Played L). played.calls) lines
-
 -- all replies as they are written
 abbrev pub text_of_played : {L : Type 0} → List (Played L) → List ℕ
 text_of_played {L} lines = flat_map (λ (played : Played L). text_of_replies played.said) lines

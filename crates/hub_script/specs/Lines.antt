@@ -6,7 +6,7 @@ use Rattle.ghes_ack.specs.declared.events.Event.{Event}
 use Rattle.ghes_ack.specs.declared.events.Event.TheVariants.{Took}
 use Rattle.hest_sources.specs.Tables.{refusal}
 use Rattle.ghes_hub.specs.Hubs.{Call}
-use Rattle.hub_script.specs.HubGrammar.{Line, blank, comment, hest, turns}
+use Rattle.hub_script.specs.HubGrammar.{Line, blank, comment, turns}
 use Rattle.hub_script.specs.HubText.{IsWritten}
 use Rattle.hub_script.specs.Replies.{text_of_replies, reply_line, words_of_turns}
 use Rattle.script_lines.specs.Streams.{Stream}
@@ -70,12 +70,6 @@ pub record BringsTable (hex : List ℕ) : Type 0 where
   pub bytes : List ℕ
   pub decoded : decode_of hex ≡ Ok bytes
   pub table : refusal bytes ≡ None
-
--- a text gives a table, the one line for which memory is taken
-pub record GivesTable (text : List ℕ) : Type 0 where
-  pub hex : List ℕ
-  pub written : IsWritten text (hest hex)
-  pub brings : BringsTable hex
 
 -- a line gives a table
 abbrev pub IsTable : HubLine → Type 0

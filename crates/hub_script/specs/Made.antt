@@ -1,5 +1,5 @@
 -- What is seen of a player, and of a reply in memory.
-use Rattle.std.specs.Prelude.{◌≡◌, ℕ, List, [], ◌∷◌, Some, None}
+use Rattle.std.specs.Prelude.{◌≡◌, ℕ, List, [], ◌∷◌, ◌++◌, Some, None, codes, decimal}
 use Rattle.std.specs.declared.alloc.Global.{Global}
 use Rattle.std.specs.declared.dyn_box.DynBox.{DynBox}
 use Rattle.apei_notify.specs.Telling.{Hearing}
@@ -10,7 +10,7 @@ use Rattle.ghes_hub.specs.Opens.{IsOpened}
 use Rattle.ghes_hub.specs.Refusals.{hub_refusal}
 use Rattle.hub_script.specs.HubGrammar.{Line}
 use Rattle.hub_script.specs.RefusalWords.{words_of_refusal}
-use Rattle.hub_script.specs.Replies.{reply_line, refused, words_of_opened}
+use Rattle.hub_script.specs.Replies.{reply_line, refused}
 use Rattle.hub_script.specs.Stages.{HubStage, Waiting, Serving, stage_in}
 use Rattle.hub_script.specs.Plays.{Plays}
 use Rattle.hub_script.specs.declared.player.HubPlayer.{HubPlayer}
@@ -29,4 +29,4 @@ pub record MakesReply {L : Type 0} (hearing : L → Hearing) (old : HubStage L) 
 -- a table was given to listeners that wait, and the reply made: no hub is opened for it, or one is
 pub data OpensFor {L : Type 0} (listeners : List L) (table : List HestSource) : HubStage L → List ℕ → Type 0 where
   NotOpened : (why : HubError) → hub_refusal table ≡ Some why → OpensFor listeners table (Waiting listeners) (reply_line (refused (words_of_refusal (Hub why))))
-  IsOpen : (hub : HubState L) → hub_refusal table ≡ None → IsOpened table listeners hub → OpensFor listeners table (Serving hub) (reply_line (words_of_opened (sources_in hub)))
+  IsOpen : (hub : HubState L) → hub_refusal table ≡ None → IsOpened table listeners hub → OpensFor listeners table (Serving hub) (reply_line (codes "hub " ++ decimal (sources_in hub)))

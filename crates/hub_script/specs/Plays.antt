@@ -17,9 +17,8 @@ use Rattle.ghes_hub.specs.Runs.{told_at}
 use Rattle.script_text.specs.Turns.{side_of}
 use Rattle.hub_script.specs.HubGrammar.{Line, blank, comment, hest, error, turns, heard, removal}
 use Rattle.hub_script.specs.RefusalWords.{words_of_refusal}
-use Rattle.hub_script.specs.Replies.{refused, words_of_opened, words_of_queued, words_of_block, words_of_turns, words_of_heard}
+use Rattle.hub_script.specs.Replies.{refused, words_of_block, words_of_turns, words_of_heard}
 use Rattle.hub_script.specs.Stages.{HubStage, Waiting, Serving}
-use Rattle.hub_script.specs.declared.refusals.HubRefusal.{HubRefusal}
 use Rattle.hub_script.specs.declared.refusals.HubRefusal.TheVariants.{Open, Table, Hub, NoHub, Nobody, Submit}
 
 -- the source of a hexadecimal digit in lower case
@@ -30,22 +29,13 @@ source_of digit = if nat_lt digit 58 then digit - 48 else digit - 87
 abbrev pub named_at : List ℕ → ℕ → ℕ
 named_at pairs at = source_of (get_or pairs (2 * at) 0)
 
--- so many listeners of a source a hub counts at most
-unfoldable pub most_listed : ℕ
-most_listed = 2 ^ 32 - 1
+-- the listeners of a source that a hub counts
+unfoldable pub listed : {L : Type 0} → List L → List L
+listed members = take (2 ^ 32 - 1) members
 
-abbrev pub listed : {L : Type 0} → List L → List L
-listed members = take most_listed members
-
--- nothing is said and done
-pub record IsQuiet {L : Type 0} (old : HubStage L) (said : List (List ℕ)) (calls : List Call) (new : HubStage L) : Type 0 where
-  pub said_is : said ≡ []
-  pub calls_are : calls ≡ []
-  pub stays : new ≡ old
-
--- a line is refused, which changes nothing
-pub record IsRefused {L : Type 0} (why : HubRefusal) (old : HubStage L) (said : List (List ℕ)) (calls : List Call) (new : HubStage L) : Type 0 where
-  pub said_is : said ≡ refused (words_of_refusal why) ∷ []
+-- these replies are given, and nothing is done
+pub record OnlySays {L : Type 0} (replies : List (List ℕ)) (old : HubStage L) (said : List (List ℕ)) (calls : List Call) (new : HubStage L) : Type 0 where
+  pub said_is : said ≡ replies
   pub calls_are : calls ≡ []
   pub stays : new ≡ old
 
@@ -56,7 +46,7 @@ pub data Opens {L : Type 0} (listeners : List L) (hex : List ℕ) : List (List �
   NoOpening : (bytes : List ℕ) (n : ℕ) (table : List HestSource) (why : HubError) → decode_of hex ≡ Ok bytes → n ≤ length bytes → IsHest table (take n bytes)
       → hub_refusal table ≡ Some why → Opens listeners hex (refused (words_of_refusal (Hub why)) ∷ []) [] (Waiting listeners)
   Opened : (bytes : List ℕ) (n : ℕ) (table : List HestSource) (hub : HubState L) → decode_of hex ≡ Ok bytes → n ≤ length bytes → IsHest table (take n bytes)
-      → hub_refusal table ≡ None → IsOpened table listeners hub → Opens listeners hex (words_of_opened (sources_in hub) ∷ []) [] (Serving hub)
+      → hub_refusal table ≡ None → IsOpened table listeners hub → Opens listeners hex ((codes "hub " ++ decimal (sources_in hub)) ∷ []) [] (Serving hub)
 
 -- a block for the firmware of a source
 pub data Queues {L : Type 0} (hub : HubState L) (source : ℕ) (hex : List ℕ) : List (List ℕ) → List Call → HubStage L → Type 0 where
@@ -67,7 +57,7 @@ pub data Queues {L : Type 0} (hub : HubState L) (source : ℕ) (hex : List ℕ) 
   Queued : (block : List ℕ) (handover after : Source) (new : HubState L) → source < sources_in hub → decode_of hex ≡ Ok block
       → slice_get hub.sources.list source ≡ Some handover → refusal_of handover block ≡ None → HubSubmits source block hub new
       → slice_get new.sources.list source ≡ Some after
-      → Queues hub source hex (words_of_queued (length (waiting_of after)) ∷ []) (Submits source block ∷ []) (Serving new)
+      → Queues hub source hex ((codes "queued " ++ decimal (length (waiting_of after))) ∷ []) (Submits source block ∷ []) (Serving new)
 
 -- turns one after another: the calls, their events, the replies to the blocks that were taken, and the hub afterwards
 pub data Turned {L : Type 0} (hearing : L → Hearing) (old : HubState L) : List ℕ → List Call → List Event → List (List ℕ) → HubState L → Type 0 where
@@ -105,15 +95,15 @@ pub data Drops {L : Type 0} (hub : HubState L) (source at : ℕ) : List (List �
 
 -- what each line makes of each stage
 abbrev pub Plays : {L : Type 0} → (L → Hearing) → HubStage L → Line → List (List ℕ) → List Call → HubStage L → Type 0
-Plays hearing old blank said calls new = IsQuiet old said calls new
-Plays hearing old (comment rest) said calls new = IsQuiet old said calls new
+Plays hearing old blank said calls new = OnlySays [] old said calls new
+Plays hearing old (comment rest) said calls new = OnlySays [] old said calls new
 Plays hearing (Waiting listeners) (hest hex) said calls new = Opens listeners hex said calls new
-Plays hearing (Serving hub) (hest hex) said calls new = IsRefused Open (Serving hub) said calls new
-Plays hearing (Waiting listeners) (error source hex) said calls new = IsRefused NoHub (Waiting listeners) said calls new
+Plays hearing (Serving hub) (hest hex) said calls new = OnlySays (refused (words_of_refusal Open) ∷ []) (Serving hub) said calls new
+Plays hearing (Waiting listeners) (error source hex) said calls new = OnlySays (refused (words_of_refusal NoHub) ∷ []) (Waiting listeners) said calls new
 Plays hearing (Serving hub) (error source hex) said calls new = Queues hub source hex said calls new
-Plays hearing (Waiting listeners) (turns pairs) said calls new = IsRefused NoHub (Waiting listeners) said calls new
+Plays hearing (Waiting listeners) (turns pairs) said calls new = OnlySays (refused (words_of_refusal NoHub) ∷ []) (Waiting listeners) said calls new
 Plays hearing (Serving hub) (turns pairs) said calls new = TakesTurns hearing hub pairs said calls new
-Plays hearing (Waiting listeners) (heard source) said calls new = IsRefused NoHub (Waiting listeners) said calls new
+Plays hearing (Waiting listeners) (heard source) said calls new = OnlySays (refused (words_of_refusal NoHub) ∷ []) (Waiting listeners) said calls new
 Plays hearing (Serving hub) (heard source) said calls new = Counts hearing hub source said calls new
-Plays hearing (Waiting listeners) (removal source at) said calls new = IsRefused NoHub (Waiting listeners) said calls new
+Plays hearing (Waiting listeners) (removal source at) said calls new = OnlySays (refused (words_of_refusal NoHub) ∷ []) (Waiting listeners) said calls new
 Plays hearing (Serving hub) (removal source at) said calls new = Drops hub source at said calls new

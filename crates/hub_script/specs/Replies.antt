@@ -5,20 +5,11 @@ use Rattle.hex.specs.Hex.{encode_lower}
 use Rattle.base_model.specs.Bytes.{number_at}
 pub use Rattle.script_text.specs.ReplyWords.{refused, word_of, words_of_turns, words_of_heard}
 
--- a hub of so many sources was opened
-abbrev pub words_of_opened : ℕ → List ℕ
-words_of_opened sources = codes "hub " ++ decimal sources
-
--- so many blocks wait now
-abbrev pub words_of_queued : ℕ → List ℕ
-words_of_queued waiting = codes "queued " ++ decimal waiting
-
 -- a block that a source's reader took: the source, the severity (ACPI 6.4, table 18.11), the length and the bytes
-abbrev pub words_before_digits : ℕ → List ℕ → List ℕ
-words_before_digits source block = codes "block " ++ decimal source ++ codes " " ++ decimal (number_at block 16 4) ++ codes " " ++ decimal (length block) ++ codes " "
-
 abbrev pub words_of_block : ℕ → List ℕ → List ℕ
-words_of_block source block = words_before_digits source block ++ encode_lower block
+words_of_block source block =
+    codes "block " ++ decimal source ++ codes " " ++ decimal (number_at block 16 4) ++ codes " " ++ decimal (length block) ++ codes " "
+    ++ encode_lower block
 
 -- each reply is a line of its own
 abbrev pub reply_line : List ℕ → List ℕ

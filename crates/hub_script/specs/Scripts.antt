@@ -1,15 +1,16 @@
 -- What a script of several error sources leaves, by its end.
 use Rattle.std.specs.Prelude.{◌≡◌, ◌⊎◌, ℕ, List, ◌++◌}
+use Rattle.std.specs.List.{flat_map}
 use Rattle.apei_notify.specs.Telling.{Hearing}
 use Rattle.script_lines.specs.Ends.{fault_of}
 use Rattle.script_lines.specs.Lines.{Line as TextLine}
 use Rattle.script_lines.specs.Played.{EndsBehind, PlaysByFault}
-use Rattle.hub_script.specs.HubGrammar.{Line, IsLine}
+use Rattle.hub_script.specs.HubGrammar.{Line, IsLine, hest}
 use Rattle.hub_script.specs.HubText.{IsWritten}
 use Rattle.script_lines.specs.Streams.{Stream}
-use Rattle.hub_script.specs.Stages.{HubStage, Waiting, IsWaiting, members_in}
-use Rattle.hub_script.specs.Lines.{IsLeft, ArePartlyWritten, PairsAreNamed, GivesTable}
-use Rattle.hub_script.specs.History.{Played, Follows, AreServed, stage_behind, calls_of, text_of_played}
+use Rattle.hub_script.specs.Stages.{HubStage, Waiting, members_in}
+use Rattle.hub_script.specs.Lines.{IsLeft, ArePartlyWritten, PairsAreNamed, BringsTable}
+use Rattle.hub_script.specs.History.{Played, Follows, AreServed, stage_behind, text_of_played}
 use Rattle.script_lines.specs.declared.ending.ScriptEnd.{ScriptEnd}
 use Rattle.script_lines.specs.declared.ending.ScriptEnd.TheVariants.{Memory}
 
@@ -25,19 +26,21 @@ pub record IsUnwritten {L : Type 0} (sink : Stream) (old : HubStage L) (first : 
   pub named : (last.line ≡ line) ⊎ PairsAreNamed (stage_behind old first) line
   pub wrote : sink.tells → ArePartlyWritten before unwritten (sink.before ++ text_of_played first) sink.after
 
--- lines of a script were played from a stage on, and their replies written; but where the sink failed, the last in part
+-- Lines of a script were played from a stage on, and their replies written; but where the sink failed, the last in part. Memory is taken for one line
+-- alone, that gives a table, and it was wanting only while no hub was open
 pub record PlaysScript {L : Type 0} (hearing : L → Hearing) (source sink : Stream) (old new : HubStage L) (ending : ScriptEnd) : Type 0 where
   pub lines : List TextLine
-  pub ends : source.tells → EndsBehind IsLine GivesTable source.before source.after lines ending
+  pub ends : source.tells → EndsBehind IsLine (λ text. (hex : List ℕ) × IsWritten text (hest hex) × BringsTable hex)
+      source.before source.after lines ending
   pub played : List (Played L)
   pub follows : Follows hearing old played new
   pub are : PlaysByFault (λ (text : List ℕ) (one : Played L). IsWritten text one.line) (IsUnwritten sink old)
       (λ (all : List (Played L)). sink.tells → sink.after ≡ sink.before ++ text_of_played all) lines played (fault_of ending)
-  pub waits : ending ≡ Memory → IsWaiting new
+  pub waits : ending ≡ Memory → (listeners : List L) × (new ≡ Waiting listeners)
 
 -- a script was played from its start on, and its listeners came back
 pub record ServesScript {L : Type 0} (hearing : L → Hearing) (source sink : Stream) (listeners listeners_now : List L) (ending : ScriptEnd) : Type 0 where
   pub last : HubStage L
   pub plays : PlaysScript hearing source sink (Waiting listeners) last ending
   pub members : listeners_now ≡ members_in last
-  pub served : AreServed hearing listeners (calls_of plays.played) last
+  pub served : AreServed hearing listeners (flat_map (λ (one : Played L). one.calls) plays.played) last

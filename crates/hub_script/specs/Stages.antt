@@ -12,11 +12,6 @@ pub data HubStage (L : Type 0) : Type 0 where
   Waiting : List L → HubStage L
   Serving : HubState L → HubStage L
 
--- no hub was opened yet
-abbrev pub IsWaiting : {L : Type 0} → HubStage L → Type 0
-IsWaiting (Waiting listeners) = Unit {0}
-IsWaiting (Serving hub) = ⊥
-
 -- the listeners that are left: source by source where a hub was opened
 abbrev pub members_in : {L : Type 0} → HubStage L → List L
 members_in (Waiting listeners) = listeners

@@ -1,17 +1,11 @@
 -- The turns of a `turns` line: pairs of a source and a side.
 use Rattle.std.specs.Prelude.{◌≡◌, ℕ, ◌*◌, ◌%◌, ◌<◌, ◌≤◌, ◌||◌, ◌&&◌, ◌==◌, nat_lt, not, Bool, if◌then◌else◌, List, length, get_or, IsTrue}
 
--- a digit, one of 0 to 9 and a to f
-abbrev pub is_source : ℕ → Bool
-is_source c = (not (nat_lt c 48) && nat_lt c 58) || (not (nat_lt c 97) && nat_lt c 103)
-
--- F for the firmware, R for the reader
-abbrev pub is_side : ℕ → Bool
-is_side c = c == 70 || c == 82
-
--- sources stand at the even places, sides at the others
+-- sources stand at the even places, one of 0 to 9 and a to f, and sides at the others, F for the firmware and R for the reader
 abbrev pub may_stand : ℕ → ℕ → Bool
-may_stand at c = if at % 2 == 0 then is_source c else is_side c
+may_stand at c =
+    if at % 2 == 0 then (not (nat_lt c 48) && nat_lt c 58) || (not (nat_lt c 97) && nat_lt c 103)
+    else c == 70 || c == 82
 
 -- 1 to 2,048 pairs
 pub record AreTurns (text : List ℕ) : Type 0 where

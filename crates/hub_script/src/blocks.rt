@@ -1,7 +1,8 @@
 // The line of a block that a reader took.
-ghost use Rattle.std.specs.Prelude.{◌≡◌, ◌≤◌, length, OnOk, OnErr, ◌++◌};
+ghost use Rattle.std.specs.Prelude.{◌≡◌, ◌≤◌, length, OnOk, OnErr, ◌++◌, codes, decimal};
+ghost use Rattle.base_model.specs.Bytes.{number_at};
 ghost use Rattle.base_model.specs.Faults.{HasCause};
-ghost use Rattle.hub_script.specs.Replies.{words_of_block, words_before_digits, reply_line};
+ghost use Rattle.hub_script.specs.Replies.{words_of_block, reply_line};
 ghost use Rattle.script_text.specs.Shown.{IsPartWritten};
 
 use crate::reply::end_line;
@@ -43,7 +44,8 @@ pub fn show_block<O: Sink>(
 /// The words of a block's line before its digits.
 fn begin_block(reply: &mut Reply, source: u32, block: &[u8])
     requires { 20 ≤ length block.now }
-    ensures words { reply.new ≡ words_before_digits source block.now }
+    ensures words { reply.new ≡ codes "block " ++ decimal source ++ codes " " ++ decimal (number_at block.now 16 4)
+        ++ codes " " ++ decimal (length block.now) ++ codes " " }
     ensures short { length reply.new ≤ 70 }
 {
     reply.begin(b"block ");

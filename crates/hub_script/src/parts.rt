@@ -2,7 +2,7 @@
 ghost use Rattle.std.specs.Prelude.{◌≡◌, ◌-◌, ◌^◌, ◌++◌, ◌∷◌, decimal, MatchResult};
 ghost use Rattle.script_lines.specs.Columns.{Breaks};
 ghost use Rattle.script_lines.specs.Parts.{IsPairs, IsNumberThen};
-ghost use Rattle.hub_script.specs.Turns.{AreTurns, is_source, is_side, may_stand};
+ghost use Rattle.hub_script.specs.Turns.{AreTurns, may_stand};
 
 use script_lines::{number, pairs};
 
@@ -51,20 +51,8 @@ fn may_stand(at: usize, byte: u8) -> bool
     ensures { result ≡ may_stand at byte }
 {
     if at % 2 == 0 {
-        is_source(byte)
+        byte.is_ascii_digit() || (b'a' <= byte && byte <= b'f')
     } else {
-        is_side(byte)
+        byte == b'F' || byte == b'R'
     }
-}
-
-fn is_source(byte: u8) -> bool
-    ensures { result ≡ is_source byte }
-{
-    byte.is_ascii_digit() || (b'a' <= byte && byte <= b'f')
-}
-
-fn is_side(byte: u8) -> bool
-    ensures { result ≡ is_side byte }
-{
-    byte == b'F' || byte == b'R'
 }

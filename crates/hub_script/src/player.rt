@@ -1,16 +1,16 @@
 // The player of a script of several error sources.
-ghost use Rattle.std.specs.Prelude.{◌≡◌, ◌≢◌, ⊤, ◌+◌, ◌<◌, ◌≤◌, ℕ, length, Ok, Err, None, OnOk, OnErr, IfOk, IfErr};
+ghost use Rattle.std.specs.Prelude.{◌≡◌, ◌≢◌, ⊤, ◌+◌, ◌<◌, ◌≤◌, ℕ, List, length, Ok, Err, None, OnOk, OnErr, IfOk, IfErr};
 ghost use Rattle.base_model.specs.Faults.{Rose, HasCause};
 ghost use Rattle.script_lines.specs.Columns.{BreaksAt};
 ghost use Rattle.script_lines.specs.Parts.{IsPairs};
 ghost use Rattle.script_lines.specs.declared.lengths.TheConstants.{LONGEST_LINE};
 ghost use Rattle.hub_script.specs.declared.player.HubStop.TheVariants.{SinkFault as TheSinkFault};
 ghost use Rattle.hub_script.specs.HubGrammar.{IsLine, IsValid, text_of, hest, error, turns, heard, removal};
-ghost use Rattle.hub_script.specs.HubText.{line_of};
+ghost use Rattle.hub_script.specs.HubText.{IsWritten, line_of};
 ghost use Rattle.hub_script.specs.Turns.{AreTurns};
 ghost use Rattle.script_lines.specs.Streams.{stream_of};
 ghost use Rattle.hub_script.specs.Stages.{Waiting, members_in};
-ghost use Rattle.hub_script.specs.Lines.{PlaysLine, PlaysUnwritten, TextIs, BringsTable, GivesTable, IsTable};
+ghost use Rattle.hub_script.specs.Lines.{PlaysLine, PlaysUnwritten, TextIs, BringsTable, IsTable};
 ghost use Rattle.hub_script.specs.Made.{stage_of, MakesReply, OpensFor};
 
 use crate::heard::show_heard;
@@ -86,7 +86,8 @@ impl HubPlayer {
             (stream_of O.tells (O.written out.old) (O.written out.new))
             (stage_of self.old) asked (stage_of self.new)) }
         ensures bad { (column : ℕ) → result ≡ Err (HubStop.BadLine column) → BreaksAt IsLine line.now column }
-        ensures memory { result ≡ Err HubStop.Memory → GivesTable line.now }
+        ensures memory { result ≡ Err HubStop.Memory
+            → (hex : List ℕ) × IsWritten line.now (hest hex) × BringsTable hex }
         ensures waits { result ≡ Err HubStop.Memory → self.old.hub ≡ None }
         ensures stopped { IfErr result (λ stop. stop ≢ HubStop.SinkFault → (stage_of self.new ≡ stage_of self.old)
             × (out.new ≡ out.old)) }

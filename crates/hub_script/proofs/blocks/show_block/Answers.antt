@@ -2,7 +2,8 @@ use Rattle.std.proofs.Common.{◌∙◌, ℕ, ◌-◌, List, [], ◌∷◌, ◌+
 use Rattle.std.proofs.lemmas.List.{append-nil}
 use Rattle.std.proofs.lemmas.Result.{on_ok_weaker, on_err_weaker}
 use Rattle.hex.specs.Hex.{encode_lower}
-use Rattle.hub_script.specs.Replies.{reply_line, words_before_digits, words_of_block}
+use Rattle.hub_script.specs.Replies.{reply_line, words_of_block}
+use Rattle.hub_script.proofs.Terms.{words_before_digits}
 use Rattle.base_model.proofs.FaultLemmas.{on_err, same_cause}
 use Rattle.script_text.proofs.FaultLemmas.{handed_on}
 use Rattle.script_text.proofs.ShownLemmas.{shown_none, shown_then, shown_more, shown_all, shown_part}

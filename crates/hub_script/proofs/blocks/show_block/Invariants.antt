@@ -1,6 +1,6 @@
 use Rattle.std.proofs.Common.{◌≡◌, ◌≤◌, ◌-◌, ◌++◌, length, take}
 use Rattle.hex.specs.Hex.{encode_lower}
-use Rattle.hub_script.specs.Replies.{words_before_digits}
+use Rattle.hub_script.proofs.Terms.{words_before_digits}
 use Rattle.script_text.specs.Shown.{AreShown}
 use Rattle.hub_script.proofs.blocks.show_block.Given as goal
 

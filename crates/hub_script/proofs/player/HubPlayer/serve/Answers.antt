@@ -1,6 +1,7 @@
 use Rattle.std.proofs.Common.{◌∙◌, ℕ, List, ◌++◌, decimal, ap, rules}
 use Rattle.hub_script.specs.RefusalWords.{HubHasWords}
-use Rattle.hub_script.specs.Replies.{reply_line, words_of_opened}
+use Rattle.hub_script.specs.Replies.{reply_line}
+use Rattle.hub_script.proofs.Terms.{words_of_opened}
 use Rattle.hub_script.proofs.StageLemmas.{opened_for, not_opened_for, hub_refused}
 use Rattle.hub_script.proofs.player.HubPlayer.serve.Goals as goal
 

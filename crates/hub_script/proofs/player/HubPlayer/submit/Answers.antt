@@ -1,5 +1,6 @@
 use Rattle.std.proofs.Common.{◌∙◌, ◌++◌, decimal, refl, ap}
-use Rattle.hub_script.specs.Replies.{reply_line, words_of_queued}
+use Rattle.hub_script.specs.Replies.{reply_line}
+use Rattle.hub_script.proofs.Terms.{words_of_queued}
 use Rattle.hub_script.proofs.StageLemmas.{refused_waiting, at_hub, nobody_given, not_taken, queued, not_below, is_below, as_lent}
 use Rattle.hub_script.proofs.player.HubPlayer.submit.Goals as goal
 

@@ -1,0 +1,20 @@
+-- Names for words that definitions write out.
+use Rattle.std.proofs.Common.{ℕ, List, ◌++◌, length, codes, decimal}
+use Rattle.base_model.specs.Bytes.{number_at}
+use Rattle.hub_script.specs.HubGrammar.{hest}
+use Rattle.hub_script.specs.HubText.{IsWritten}
+use Rattle.hub_script.specs.Lines.{BringsTable}
+
+abbrev pub words_of_opened : ℕ → List ℕ
+words_of_opened sources = codes "hub " ++ decimal sources
+
+abbrev pub words_of_queued : ℕ → List ℕ
+words_of_queued waiting = codes "queued " ++ decimal waiting
+
+abbrev pub words_before_digits : ℕ → List ℕ → List ℕ
+words_before_digits source block =
+    codes "block " ++ decimal source ++ codes " " ++ decimal (number_at block 16 4) ++ codes " " ++ decimal (length block) ++ codes " "
+
+-- a text gives a table
+abbrev pub GivesTable : List ℕ → Type 0
+GivesTable text = (hex : List ℕ) × IsWritten text (hest hex) × BringsTable hex
