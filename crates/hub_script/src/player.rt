@@ -9,6 +9,7 @@ ghost use Rattle.hub_script.specs.HubGrammar.{IsLine, IsValid, text_of, hest, er
 ghost use Rattle.hub_script.specs.HubText.{IsWritten, line_of};
 ghost use Rattle.hub_script.specs.Turns.{AreTurns};
 ghost use Rattle.script_lines.specs.Streams.{stream_of};
+ghost use Rattle.ghes_hub.specs.Refusals.{IsRefusal};
 ghost use Rattle.hub_script.specs.Stages.{Waiting, members_in};
 ghost use Rattle.hub_script.specs.Lines.{PlaysLine, PlaysUnwritten, TextIs, BringsTable, IsTable};
 ghost use Rattle.hub_script.specs.Made.{stage_of, MakesReply, OpensFor};
@@ -168,6 +169,7 @@ impl HubPlayer {
         requires { self.old.hub ≡ None }
         ensures made { OnOk result (OpensFor self.old.listeners.items table.now (stage_of self.new)
             self.new.session.reply) }
+        ensures memory { OnErr result (IsRefusal table.now HubError.Memory) }
         ensures stays { OnErr result (stage_of self.new ≡ stage_of self.old) }
     {
         let listeners = replace(&mut self.listeners, Vec::new(self.alloc));
