@@ -9,7 +9,8 @@ use Rattle.script_lines.specs.Played.{EndsBehind}
 use Rattle.script_lines.specs.declared.ending.ScriptEnd.{ScriptEnd}
 use Rattle.script_lines.specs.declared.ending.ScriptEnd.TheVariants as ending
 use Rattle.apei_cli.specs.Runs.{ComesBeforeBoot}
-use Rattle.apei_cli.specs.Statuses.{GivesTable, EndsBy, LeavesLast, fault_of, status_of}
+use Rattle.apei_cli.specs.Statuses.{EndsBy, LeavesLast, fault_of, status_of}
+use Rattle.apei_cli.proofs.Terms.{GivesTable}
 use Rattle.apei_cli.specs.declared.status.Status.{Status}
 use Rattle.apei_cli.specs.declared.status.Status.TheVariants.{FlashFault}
 
@@ -22,12 +23,12 @@ pub record HasStatus (tells : Type 0) (end : ScriptEnd) : Type 0 where
   pub ends : (script rest : List ℕ) (lines : List Line) (last final : MachineState) → EndsBehind IsLine GivesTable script rest lines end → EndsBy tells script rest lines last final (status_of end)
 
 pub has_status : (tells : Type 0) (end : ScriptEnd) → HasStatus tells end
-has_status tells ending.Done = record { fault = refl; later = λ first. first; no_flash = λ e. cc e; leaves = λ machine. refl; ends = λ script rest lines last final ends. ends }
-has_status tells (ending.BadLine line column) = record { fault = refl; later = λ first. first; no_flash = λ e. cc e; leaves = λ machine. refl; ends = λ script rest lines last final ends. ends }
-has_status tells ending.SourceFault = record { fault = refl; later = λ first. first; no_flash = λ e. cc e; leaves = λ machine. refl; ends = λ script rest lines last final ends. ends }
-has_status tells ending.SinkFault = record { fault = refl; later = λ first. first; no_flash = λ e. cc e; leaves = λ machine. refl; ends = λ script rest lines last final ends. ends }
-has_status tells (ending.TooLong line) = record { fault = refl; later = λ first. first; no_flash = λ e. cc e; leaves = λ machine. refl; ends = λ script rest lines last final ends. ends }
-has_status tells ending.Memory = record { fault = refl; later = λ first. first; no_flash = λ e. cc e; leaves = λ machine. refl; ends = λ script rest lines last final ends. ends }
+has_status tells ending.Done = record { fault = refl; later = λ first. first; no_flash = λ e. cc e; leaves = λ machine. refl; ends = λ script rest lines last final ends. (ending.Done, refl, ends) }
+has_status tells (ending.BadLine line column) = record { fault = refl; later = λ first. first; no_flash = λ e. cc e; leaves = λ machine. refl; ends = λ script rest lines last final ends. (ending.BadLine line column, refl, ends) }
+has_status tells ending.SourceFault = record { fault = refl; later = λ first. first; no_flash = λ e. cc e; leaves = λ machine. refl; ends = λ script rest lines last final ends. (ending.SourceFault, refl, ends) }
+has_status tells ending.SinkFault = record { fault = refl; later = λ first. first; no_flash = λ e. cc e; leaves = λ machine. refl; ends = λ script rest lines last final ends. (ending.SinkFault, refl, ends) }
+has_status tells (ending.TooLong line) = record { fault = refl; later = λ first. first; no_flash = λ e. cc e; leaves = λ machine. refl; ends = λ script rest lines last final ends. (ending.TooLong line, refl, ends) }
+has_status tells ending.Memory = record { fault = refl; later = λ first. first; no_flash = λ e. cc e; leaves = λ machine. refl; ends = λ script rest lines last final ends. (ending.Memory, refl, ends) }
 
 pub never_first : (end : ScriptEnd) → ComesBeforeBoot (status_of end) → ⊥
 never_first end = (has_status (Unit {0}) end).later

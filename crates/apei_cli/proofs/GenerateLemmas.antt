@@ -1,10 +1,10 @@
 -- Commands that are generated and played, one after another.
 use Rattle.std.proofs.Common.{◌≡◌, ◌∙◌, ℕ, zero, suc, ◌+◌, Option, Some, None, Result, Ok, Err, Bool, true, false, List, [], ◌∷◌, ◌++◌, length, map, cond, refl, sym, ap, subst, arith, length-append}
-use Rattle.std.specs.Prelude.{count_by, is_err}
+use Rattle.std.specs.Prelude.{codes, count_by, is_err}
 use Rattle.std.specs.Result.{result_unwrap_or}
 use Rattle.std.proofs.lemmas.List.{map-append, append-nil}
 use Rattle.std.proofs.lemmas.List.Sums.{sum_by-append}
-use Rattle.script_text.specs.ScriptGrammar.{Line, count}
+use Rattle.script_text.specs.ScriptGrammar.{Line, count, text_of}
 use Rattle.erst_client.specs.declared.errors.ClientError.{ClientError}
 use Rattle.erst_machine.specs.Shown.{changes_of}
 use Rattle.apei_script.specs.Players.{PlayerState}
@@ -17,10 +17,11 @@ use Rattle.apei_cli.specs.Orders.{batch_of}
 use Rattle.apei_cli.specs.declared.generate.command.Command.{Command}
 use Rattle.apei_cli.specs.declared.generate.command.Command.TheVariants.{Write, Clear, Read, Next}
 use Rattle.apei_cli.specs.declared.generate.tally.Tally.{Tally}
-use Rattle.apei_cli.specs.Commands.{number_behind, numbers_behind, drawn_of, command_of, line_for, line_at, generated_lines}
+use Rattle.apei_cli.specs.Commands.{number_behind, numbers_behind, drawn_of, command_of, line_for, generated_lines}
 use Rattle.apei_cli.specs.Tallies.{counted_kind, counted_refusal, counted_with}
-use Rattle.apei_cli.specs.Generated.{is_write, is_clear, is_read, is_next, is_refusal, tally_of, IsRefusedIf, PlaysCommands}
+use Rattle.apei_cli.specs.Generated.{begins, tally_of, IsRefusedIf, PlaysCommands}
 use Rattle.apei_cli.specs.Summaries.{TellsLive, Counted, Refused, WritesText, summary_of, IsGenerated}
+use Rattle.apei_cli.proofs.Terms.{line_at, is_refusal}
 use Rattle.apei_cli.proofs.RunLemmas.{AreCounted-push, Follows-push, blocks_of-push, counts_after}
 
 -- the number that so many numbers behind one end in
@@ -102,13 +103,16 @@ tally-as a b c d f a_now b_now c_now d_now f_now is_a is_b is_c is_d is_f =
 abbrev refusing : ℕ → Tally → Tally
 refusing f tally = record tally { refused = f }
 
+abbrev is_kind : List ℕ → Line → Bool
+is_kind word line = begins word (text_of line)
+
 -- the kind of one more command
 kind-bumped : (command : Command) (tally : Tally)
     → ◌≡◌ {A = Tally} (record {
-      writes = bumped (is_write (line_for command)) tally.writes;
-      clears = bumped (is_clear (line_for command)) tally.clears;
-      reads = bumped (is_read (line_for command)) tally.reads;
-      nexts = bumped (is_next (line_for command)) tally.nexts;
+      writes = bumped (is_kind (codes "write") (line_for command)) tally.writes;
+      clears = bumped (is_kind (codes "clear") (line_for command)) tally.clears;
+      reads = bumped (is_kind (codes "read") (line_for command)) tally.reads;
+      nexts = bumped (is_kind (codes "next") (line_for command)) tally.nexts;
       refused = tally.refused;
     }) (counted_kind command tally)
 kind-bumped (Write id size) tally = refl
@@ -119,7 +123,7 @@ kind-bumped Next tally = refl
 kind-push : (some : List Played) (one : Played) (command : Command) (f : ℕ) → one.line ≡ line_for command
     → refusing f (tally_of (some ++ one ∷ [])) ≡ counted_kind command (refusing f (tally_of some))
 kind-push some one command f is =
-    tally-as _ _ _ _ _ _ _ _ _ _ (pushed is_write) (pushed is_clear) (pushed is_read) (pushed is_next) refl
+    tally-as _ _ _ _ _ _ _ _ _ _ (pushed (is_kind (codes "write"))) (pushed (is_kind (codes "clear"))) (pushed (is_kind (codes "read"))) (pushed (is_kind (codes "next"))) refl
     ∙ kind-bumped command (refusing f (tally_of some))
   where
     pushed : (test : Line → Bool) → count_by (λ (p : Played). test p.line) (some ++ one ∷ []) ≡ bumped (test (line_for command)) (count_by (λ (p : Played). test p.line) some)

@@ -1,3 +1,4 @@
+pub mod Terms
 pub mod DecimalLemmas
 pub mod CommandLemmas
 pub mod TakesLemmas

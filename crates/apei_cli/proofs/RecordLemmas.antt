@@ -12,7 +12,8 @@ use Rattle.apei_script.specs.Plays.{IsPlayable}
 use Rattle.std.proofs.Math.Seq.{take-append_seam, take-append-add, drop-append-add, drop-append_seam}
 use Rattle.base_model.specs.Bytes.{spelled, put_at, AreBytes}
 use Rattle.base_model.proofs.BytesLemmas.{length-spelled, AreBytes-append, AreBytes-spelled}
-use Rattle.apei_cli.specs.Records.{first_fields, zeros, record_of}
+use Rattle.apei_cli.specs.Records.{zeros, record_of}
+use Rattle.apei_cli.proofs.Terms.{first_fields}
 
 -- bytes in the place of others between two lists
 put_between : (before old new after : List ℕ) → length old ≡ length new → put_at (before ++ (old ++ after)) (length before) new ≡ before ++ new ++ after

@@ -18,11 +18,13 @@ use Rattle.erst_machine.specs.Shown.{changes_of}
 use Rattle.apei_script.specs.History.{Played, Follows, AreCounted, blocks_of, reply_of, text_of, heard_after}
 use Rattle.script_lines.specs.Ends.{IsBadFrom, EndsReading}
 use Rattle.script_lines.specs.declared.ending.ScriptEnd.{ScriptEnd}
+use Rattle.script_lines.specs.declared.ending.ScriptEnd.TheVariants as ending
 use Rattle.script_lines.specs.Lines.{Line, Reading, IsNextLine}
 use Rattle.script_lines.specs.Played.{IsLineOf, ArePlayed, StopsAt, PlaysByFault}
 use Rattle.script_lines.specs.Reads.{HasRead, AreReadInOrder, last_line}
 use Rattle.script_lines.proofs.PlayedLemmas.{ArePlayed-push, is_bad, stops_at, ends_behind, whole, ends_none as lines_end}
-use Rattle.apei_cli.specs.Statuses.{GivesTable, FailsInRestart, IsUnwritten, LeavesLast, status_of, LinesOf}
+use Rattle.apei_cli.specs.Statuses.{IsUnwritten, LeavesLast, status_of, LinesOf}
+use Rattle.apei_cli.proofs.Terms.{GivesTable, FailsInRestart}
 use Rattle.apei_cli.specs.Runs.{PlaysLines}
 use Rattle.apei_cli.specs.declared.status.Status.{Status}
 use Rattle.apei_cli.specs.declared.status.Status.TheVariants.{BadLine, SinkFault, FlashFault, Memory}
@@ -169,18 +171,18 @@ module _ {L : Type 0} (hearing : L → Hearing) (told_source told_sink tells : T
       stopped script rest rest_now written middle now first members members old new new a status so_far lines behind refl (λ e. absurd (other e))
 
   -- there is no next line
-  pub ends_none : (script rest rest_now written now : List ℕ) (first members : List L) (old new : PlayerState) (a b : Reading) (ending : ScriptEnd)
-      → EndsReading told_source a b rest rest_now ending → SoFar hearing told_source told_sink tells script rest written now first members old new a
-      → PlaysScript hearing tells (stream_of told_source script rest_now) (stream_of told_sink written now) (stage_in old first) (stage_in new members) (status_of ending)
-  ends_none script rest rest_now written now first members old new a b ending end so_far =
-      let has = has_status tells ending in
-      as_so_far script rest rest_now written now now first members old new a (status_of ending) so_far (record {
+  pub ends_none : (script rest rest_now written now : List ℕ) (first members : List L) (old new : PlayerState) (a b : Reading) (ended : ScriptEnd)
+      → EndsReading told_source a b rest rest_now ended → SoFar hearing told_source told_sink tells script rest written now first members old new a
+      → PlaysScript hearing tells (stream_of told_source script rest_now) (stream_of told_sink written now) (stage_in old first) (stage_in new members) (status_of ended)
+  ends_none script rest rest_now written now first members old new a b ended end so_far =
+      let has = has_status tells ended in
+      as_so_far script rest rest_now written now now first members old new a (status_of ended) so_far (record {
         lines = so_far.lines;
-        ends = λ told. has.ends script rest_now so_far.lines new.machine new.machine (lines_end IsLine GivesTable told_source script rest rest_now so_far.lines a b ending order so_far.read end told);
+        ends = λ told. has.ends script rest_now so_far.lines new.machine new.machine (lines_end IsLine GivesTable told_source script rest rest_now so_far.lines a b ended order so_far.read end told);
         are = subst (PlaysByFault (λ (text : List ℕ) (one : Played). Means text one.line) (IsUnwritten (stream_of told_sink written now)) (λ (all : List Played). told_sink → now ≡ written ++ text_of all) so_far.lines so_far.played)
             has.fault
             (whole (λ (text : List ℕ) (one : Played). Means text one.line) (IsUnwritten (stream_of told_sink written now)) (λ (all : List Played). told_sink → now ≡ written ++ text_of all)
-            told_source a b rest rest_now so_far.lines so_far.played ending end (so_far.are, so_far.text));
+            told_source a b rest rest_now so_far.lines so_far.played ended end (so_far.are, so_far.text));
       })
       (has.leaves new.machine) has.no_flash
 
@@ -191,7 +193,11 @@ module _ {L : Type 0} (hearing : L → Hearing) (told_source told_sink tells : T
   ends_bad script rest rest_now written now text first members old new a b number column next numbered same breaks so_far =
       as_so_far script rest rest_now written now now first members old new a (BadLine number column) so_far (record {
         lines = so_far.lines;
-        ends = stops_here (IsBadFrom IsLine column) script rest rest_now written now first members old new a b number so_far next numbered (is_bad IsLine told_source a b rest rest_now text column next same breaks);
+        ends = λ told. (
+          ending.BadLine number column,
+          refl,
+          stops_here (IsBadFrom IsLine column) script rest rest_now written now first members old new a b number so_far next numbered (is_bad IsLine told_source a b rest rest_now text column next same breaks) told,
+        );
         are = (so_far.are, so_far.text);
       })
       refl (λ e. absurd (cc e))
@@ -207,7 +213,7 @@ module _ {L : Type 0} (hearing : L → Hearing) (told_source told_sink tells : T
     history = history_then script rest written middle first members old mid a so_far plays.made plays.said plays.blocks plays.steps new members_now plays.played plays.told;
     lines = record {
       lines = so_far.lines ++ last_line b ∷ [];
-      ends = λ told. ends_behind script so_far.lines (last_line b) b.number (order.stands script rest rest_now so_far.lines a b so_far.read next told);
+      ends = λ told. (ending.SinkFault, refl, ends_behind script so_far.lines (last_line b) b.number (order.stands script rest rest_now so_far.lines a b so_far.read next told));
       are = record {
         before = so_far.lines;
         line = last_line b;
@@ -260,7 +266,7 @@ module _ {L : Type 0} (hearing : L → Hearing) (told_source told_sink tells : T
 
       at : told_source → StopsAt (IsLineOf (FailsInRestart tells mid.machine new.machine)) script so_far.lines b.number
       at = stops_here (IsLineOf (FailsInRestart tells mid.machine new.machine)) script rest rest_now written middle first members old mid a b b.number so_far next refl
-          (record { within = is.within; is = record { asked = line; means = is.is; fails = fails } })
+          (record { within = is.within; is = (line, is.is, fails) })
 
   -- there was no memory for its table
   pub ends_memory : (script rest rest_now written middle now : List ℕ) (first members members_now : List L) (old mid new : PlayerState) (a b : Reading) (line : ScriptLine) (stop : PlayStop)
@@ -270,10 +276,10 @@ module _ {L : Type 0} (hearing : L → Hearing) (told_source told_sink tells : T
   ends_memory script rest rest_now written middle now first members members_now old mid new a b line stop so_far next is stops why quiet said =
       let left : Stops tells mid line new NoMemory = subst (Stops tells mid line new) why stops in
       let at = stops_here (IsLineOf GivesTable) script rest rest_now written middle first members old mid a b b.number so_far next refl
-      (record { within = is.within; is = record { asked = line; means = is.is; brings_table = left.1 } }) in
+      (record { within = is.within; is = (line, is.is, left.1) }) in
       stopped script rest rest_now written middle now first members members_now old mid new a Memory so_far (record {
         lines = so_far.lines;
-        ends = λ told. (b.number, at told);
+        ends = λ told. (ending.Memory, refl, (b.number, at told));
         are = (so_far.are, λ told. said ∙ so_far.text told);
       })
       (ap (λ (p : PlayerState). p.machine) left.0) quiet (λ e. absurd (cc e))

@@ -1,7 +1,7 @@
 -- The command that clap reads: its job, and its options.
 use Rattle.std.specs.Prelude.{Bool, true, false, List, [], ◌∷◌, Option, Some, None, codes, fold, if◌then◌else◌}
 use Rattle.std.specs.Str.{bytes_eq}
-use Rattle.clap.specs.Words.{App, Rule, Text, new_rule, with_rule}
+use Rattle.clap.specs.Words.{App, Text, new_rule, with_rule}
 use Rattle.clap_words.specs.Commands.{bare, with_option}
 use Rattle.apei_cli.specs.declared.job.Job.{Job}
 use Rattle.apei_cli.specs.declared.job.Job.TheVariants.{Play, Sim, Check, Gen, Hub}
@@ -60,13 +60,8 @@ belongs Seed = is Gen
 belongs Show = is Check
 belongs _ = is Sim
 
--- the first positional, which has to be there
-abbrev pub job_rule : Rule
-job_rule = record (new_rule (codes "job")) { required = true }
-
-abbrev pub with_setting : App → Setting → App
-with_setting app setting = with_option app (name_of setting)
-
--- the command: one positional, the job, and the options
+-- the command: one positional, the job, which has to be there, and the options
 unfoldable pub the_command : App
-the_command = fold with_setting (with_rule (bare (codes "apei")) job_rule) settings
+the_command =
+    fold (λ (app : App) (setting : Setting). with_option app (name_of setting))
+    (with_rule (bare (codes "apei")) (record (new_rule (codes "job")) { required = true })) settings

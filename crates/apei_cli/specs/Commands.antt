@@ -19,19 +19,13 @@ numbers_behind x (suc n) = number_behind x ∷ numbers_behind (number_behind x) 
 abbrev pub drawn_of : ℕ → ℕ
 drawn_of x = x / 2 ^ 33
 
--- one of 40 identifiers, and one of 16 sizes in bytes
-abbrev pub id_of : ℕ → ℕ
-id_of drawn = 1 + (drawn / 8) % 40
-
-abbrev pub size_of : ℕ → ℕ
-size_of drawn = 128 + 16 * ((drawn / 512) % 16)
-
--- of eight commands five write, and one each clears, reads and names
+-- of eight commands five write, and one each clears, reads and names: one of 40 identifiers, and one of 16 sizes in bytes
 abbrev pub command_of : ℕ → Command
 command_of drawn =
-    if nat_lt (drawn % 8) 5 then Write (id_of drawn) (size_of drawn)
-    else if drawn % 8 == 5 then Clear (id_of drawn)
-    else if drawn % 8 == 6 then Read (id_of drawn)
+    let id = 1 + (drawn / 8) % 40 in
+    if nat_lt (drawn % 8) 5 then Write id (128 + 16 * ((drawn / 512) % 16))
+    else if drawn % 8 == 5 then Clear id
+    else if drawn % 8 == 6 then Read id
     else Next
 
 -- the sizes of the records that are written
@@ -46,9 +40,6 @@ line_for (Clear id) = clear id
 line_for (Read id) = read id
 line_for Next = next
 
-abbrev pub line_at : ℕ → Line
-line_at x = line_for (command_of (drawn_of x))
-
 -- the lines that a seed generates
 abbrev pub generated_lines : ℕ → ℕ → List Line
-generated_lines seed count = map line_at (numbers_behind seed count)
+generated_lines seed count = map (λ (x : ℕ). line_for (command_of (drawn_of x))) (numbers_behind seed count)

@@ -1,7 +1,7 @@
 -- Lines that were generated and played.
-use Rattle.std.specs.Prelude.{◌≡◌, ℕ, Bool, true, false, List, [], codes, take, count_by, map}
+use Rattle.std.specs.Prelude.{◌≡◌, ℕ, Bool, List, [], codes, length, take, count_by, map}
 use Rattle.std.specs.Str.{bytes_eq}
-use Rattle.script_text.specs.ScriptGrammar.{Line, write, read, clear, next}
+use Rattle.script_text.specs.ScriptGrammar.{Line, text_of}
 use Rattle.apei_script.specs.Players.{PlayerState}
 use Rattle.apei_script.specs.Words.{reply_at}
 use Rattle.apei_script.specs.Plays.{step_of}
@@ -10,42 +10,25 @@ use Rattle.apei_script.specs.History.{Played, Follows, AreCounted, AreOwnLines, 
 use Rattle.apei_cli.specs.declared.generate.tally.Tally.{Tally}
 use Rattle.apei_cli.specs.Commands.{generated_lines}
 
--- the kinds of lines
-abbrev pub is_write : Line → Bool
-is_write (write hex) = true
-is_write line = false
-
-abbrev pub is_clear : Line → Bool
-is_clear (clear id) = true
-is_clear line = false
-
-abbrev pub is_read : Line → Bool
-is_read (read id) = true
-is_read line = false
-
-abbrev pub is_next : Line → Bool
-is_next next = true
-is_next line = false
-
--- a reply is a refusal
-abbrev pub is_refusal : List ℕ → Bool
-is_refusal reply = bytes_eq (codes "refused") (take 7 reply)
+-- a text begins with a word
+abbrev pub begins : List ℕ → List ℕ → Bool
+begins word text = bytes_eq word (take (length word) text)
 
 -- how many lines of each kind were played, and how many lines were refused
 abbrev pub tally_of : List Played → Tally
 tally_of lines = record {
-  writes = count_by (λ (played : Played). is_write played.line) lines;
-  clears = count_by (λ (played : Played). is_clear played.line) lines;
-  reads = count_by (λ (played : Played). is_read played.line) lines;
-  nexts = count_by (λ (played : Played). is_next played.line) lines;
-  refused = count_by (λ (played : Played). is_refusal (reply_of played)) lines;
+  writes = count_by (λ (played : Played). begins (codes "write") (text_of played.line)) lines;
+  clears = count_by (λ (played : Played). begins (codes "clear") (text_of played.line)) lines;
+  reads = count_by (λ (played : Played). begins (codes "read") (text_of played.line)) lines;
+  nexts = count_by (λ (played : Played). begins (codes "next") (text_of played.line)) lines;
+  refused = count_by (λ (played : Played). begins (codes "refused") (reply_of played)) lines;
 }
 
 -- one line was played, and whether its reply is a refusal
 pub record IsRefusedIf (refused : Bool) (tells : Type 0) (old : PlayerState) (line : Line) (new : PlayerState) : Type 0 where
   pub words : List ℕ
   pub played : CommandPlayed tells old line new words
-  pub refused_is : refused ≡ is_refusal (reply_at (step_of new) words)
+  pub refused_is : refused ≡ begins (codes "refused") (reply_at (step_of new) words)
 
 -- the lines that a seed generates were played, one after another
 pub record PlaysCommands (tells : Type 0) (old : PlayerState) (seed count : ℕ) (new : PlayerState) (tally : Tally) : Type 0 where

@@ -9,7 +9,6 @@ pub mod Messages
 pub mod Sim
 pub mod Orders
 pub mod Outcomes
-pub mod HubRuns
 pub mod Records
 pub mod Commands
 pub mod Tallies

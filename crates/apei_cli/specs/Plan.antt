@@ -1,5 +1,5 @@
 -- The plan that a command line makes.
-use Rattle.std.specs.Prelude.{◌≡◌, ◌||◌, ℕ, ⊤, ◌^◌, ◌-◌, ◌<◌, ◌≤◌, Bool, true, false, not, List, length, Option, Some, None, is_some, option_and_then, String, string_bytes, Ok, codes}
+use Rattle.std.specs.Prelude.{◌≡◌, ◌||◌, ℕ, ⊤, ◌^◌, ◌-◌, ◌<◌, ◌≤◌, true, false, not, List, length, Option, Some, None, is_some, option_and_then, String, string_bytes, Ok, codes}
 use Rattle.std.specs.List.{AllPass}
 use Rattle.std.specs.declared.alloc.Global.{Global}
 use Rattle.bitflags.specs.Text.{name_piece, read_text}
@@ -18,14 +18,6 @@ use Rattle.apei_cli.specs.declared.setting.Setting.TheVariants.{Image, Sector, P
 -- the text that an option was given
 abbrev pub given : Setting → List Row → Option Text
 given setting rows = first_of (name_of setting) rows
-
--- the job that the positional names
-abbrev pub job_in : List Row → Option Job
-job_in rows = option_and_then job_of (first_of (codes "job") rows)
-
--- an option that was given belongs to the job
-abbrev pub is_own : List Row → Job → Setting → Bool
-is_own rows job setting = not (is_some (given setting rows)) || belongs setting job
 
 -- a text is a number of at most `most`
 abbrev pub IsNumberUpTo : ℕ → Text → ℕ → Type 0
@@ -64,10 +56,10 @@ abbrev pub IsShow : Option Text → Show → Type 0
 IsShow None show = show.0 ≡ 1
 IsShow (Some text) show = read_text (name_piece shown_flags) text ≡ Ok show.0
 
--- the plan has the job, and the value of each option or its default
+-- the plan has the job that the positional names, and the value of each option or its default; an option that was given belongs to the job
 pub record IsPlanIn (rows : List Row) (plan : Plan) : Type 0 where
-  pub job : job_in rows ≡ Some plan.job
-  pub own : AllPass (is_own rows plan.job) settings
+  pub job : option_and_then job_of (first_of (codes "job") rows) ≡ Some plan.job
+  pub own : AllPass (λ (setting : Setting). not (is_some (given setting rows)) || belongs setting plan.job) settings
   pub image : IsImage plan.job (given Image rows) plan.image
   pub sector : IsGivenOr 4096 greatest (given Sector rows) plan.sector
   pub per_slot : IsGivenOr 2 greatest (given PerSlot rows) plan.per_slot

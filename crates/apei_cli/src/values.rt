@@ -1,11 +1,11 @@
 // The job and the values of the options.
-ghost use Rattle.std.specs.Prelude.{◌≡◌, ◌↔◌, ◌≤◌, Err, IfOk, IsTrue, MatchResult, MatchOption, None, Some, codes, option_map};
+ghost use Rattle.std.specs.Prelude.{◌≡◌, ◌↔◌, ◌≤◌, ◌||◌, Err, IfOk, IsTrue, MatchResult, MatchOption, None, Some, codes, is_some, not, option_and_then, option_map};
 ghost use Rattle.std.specs.List.{AllPass};
 ghost use Rattle.clap.specs.Words.{first_of, found_of, rows_of};
-ghost use Rattle.apei_cli.specs.CommandWords.{job_of, settings};
+ghost use Rattle.apei_cli.specs.CommandWords.{belongs, job_of, settings};
 ghost use Rattle.clap_words.specs.Commands.{NoneFits};
 ghost use Rattle.clap_words.specs.declared.error.WordsError.TheVariants.{BadWords};
-ghost use Rattle.apei_cli.specs.Plan.{IsCount, IsGiven, IsGivenOr, IsImage, IsShow, given, is_own, job_in};
+ghost use Rattle.apei_cli.specs.Plan.{IsCount, IsGiven, IsGivenOr, IsImage, IsShow, given};
 ghost use Rattle.apei_cli.specs.declared.setting.Setting.TheVariants.{Count, Image, Show as TheShow};
 
 use crate::command::JOB;
@@ -21,8 +21,9 @@ const MOST_COMMANDS: u64 = 100_000;
 
 /// The job that is named.
 pub(crate) fn job(matches: &ArgMatches<'_>) -> Result<Job, WordsError>
-    ensures { MatchResult result (λ job. job_in (rows_of (found_of matches.now)) ≡ Some job)
-        (λ error. (error ≡ BadWords) × (job_in (rows_of (found_of matches.now)) ≡ None)) }
+    ensures { MatchResult result (λ job. option_and_then job_of (first_of (codes "job") (rows_of (found_of matches.now))) ≡ Some job)
+        (λ error. (error ≡ BadWords)
+        × (option_and_then job_of (first_of (codes "job") (rows_of (found_of matches.now))) ≡ None)) }
 {
     let Some(name) = job_text(matches) else {
         return Err(WordsError::BadWords);
@@ -49,7 +50,8 @@ fn job_named(name: &str) -> Option<Job>
 
 /// Whether each option that was given belongs to the job.
 pub(crate) fn are_own(matches: &ArgMatches<'_>, job: Job) -> bool
-    ensures { IsTrue result ↔ AllPass (is_own (rows_of (found_of matches.now)) job) settings }
+    ensures { IsTrue result ↔ AllPass (λ setting.
+        not (is_some (given setting (rows_of (found_of matches.now)))) || belongs setting job) settings }
 {
     SETTINGS
         .iter()
@@ -58,7 +60,7 @@ pub(crate) fn are_own(matches: &ArgMatches<'_>, job: Job) -> bool
 
 // Whether an option was not given, or belongs to the job.
 fn is_own(matches: &ArgMatches<'_>, job: Job, setting: Setting) -> bool
-    ensures { result ≡ is_own (rows_of (found_of matches.now)) job setting }
+    ensures { result ≡ (not (is_some (given setting (rows_of (found_of matches.now)))) || belongs setting job) }
 {
     text(matches, setting).is_none() || setting.belongs_to(job)
 }

@@ -2,8 +2,9 @@ use Rattle.std.proofs.Common.{rules, ◌≡◌, ◌∙◌, ap, ap₂, sym, arith
 use Rattle.std.specs.Prelude.{fold}
 use Rattle.std.proofs.lemmas.List.Sums.{fold_more}
 use Rattle.clap.specs.Words.{rule_of, with_rule}
-use Rattle.clap_words.specs.Commands.{bare, option_rule}
-use Rattle.apei_cli.specs.CommandWords.{job_rule, name_of, settings, the_command, with_setting}
+use Rattle.clap_words.specs.Commands.{bare}
+use Rattle.apei_cli.specs.CommandWords.{name_of, settings, the_command}
+use Rattle.apei_cli.proofs.Terms.{job_rule, option_rule, with_setting}
 use Rattle.apei_cli.specs.declared.setting.Setting.TheVariants.{Image}
 use Rattle.apei_cli.proofs.command.command.Goals as goal
 

@@ -2,7 +2,8 @@ use Rattle.std.proofs.Common.{◌≡◌, codes, take}
 use Rattle.std.specs.Prelude.{fold}
 use Rattle.clap.specs.Words.{app_of, with_rule}
 use Rattle.clap_words.specs.Commands.{bare}
-use Rattle.apei_cli.specs.CommandWords.{job_rule, settings, with_setting}
+use Rattle.apei_cli.specs.CommandWords.{settings}
+use Rattle.apei_cli.proofs.Terms.{job_rule, with_setting}
 use Rattle.apei_cli.proofs.command.command.Given as goal
 
 -- the command has the options before

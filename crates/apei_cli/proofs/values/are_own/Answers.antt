@@ -5,7 +5,7 @@ use Rattle.std.proofs.lemmas.List.Sums.{AllPass-from_list_all, list_all-from_All
 use Rattle.std.specs.List.{list_all}
 use Rattle.clap.specs.Words.{found_of, rows_of}
 use Rattle.apei_cli.specs.CommandWords.{settings}
-use Rattle.apei_cli.specs.Plan.{is_own}
+use Rattle.apei_cli.proofs.Terms.{is_own}
 use Rattle.apei_cli.proofs.values.are_own.Goals as goal
 
 pub returns : goal.returns

@@ -2,7 +2,7 @@ use Rattle.std.proofs.Common.{◌≡◌, ◌∙◌, Some, true, refl, sym, subst
 use Rattle.std.specs.List.{AllPass}
 use Rattle.clap.specs.Words.{found_of, rows_of}
 use Rattle.apei_cli.specs.CommandWords.{settings}
-use Rattle.apei_cli.specs.Plan.{is_own}
+use Rattle.apei_cli.proofs.Terms.{is_own}
 use Rattle.apei_cli.specs.declared.job.Job.{Job}
 use Rattle.apei_cli.proofs.words.plan_in.Goals as goal
 

@@ -1,6 +1,7 @@
 use Rattle.std.proofs.Common.{◌≡◌, ◌++◌, drop}
 use Rattle.base_model.specs.Bytes.{spelled, put_at}
-use Rattle.apei_cli.specs.Records.{first_fields, zeros}
+use Rattle.apei_cli.specs.Records.{zeros}
+use Rattle.apei_cli.proofs.Terms.{first_fields}
 use Rattle.apei_cli.proofs.RecordLemmas.{record_made}
 use Rattle.apei_cli.proofs.generate.record.sample_record.Goals as goal
 
