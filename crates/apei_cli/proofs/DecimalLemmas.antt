@@ -6,7 +6,11 @@ use Rattle.std.specs.Str.Parse.{digits_value}
 use Rattle.std.proofs.lemmas.Fmt.{decimal_is_IsNumeral}
 use Rattle.std.proofs.lemmas.Slice.Eq.{bytes_eq-Decides}
 use Rattle.std.proofs.lemmas.Bool.{lt-ltb, ltb-true}
-use Rattle.apei_cli.specs.Decimals.{IsNumber, number_in}
+use Rattle.apei_cli.specs.Decimals.{number_in}
+
+-- a text is a number below 2^64 in decimal digits
+abbrev pub IsNumber : List ℕ → ℕ → Type 0
+IsNumber text n = (text ≡ decimal n) × (n < 2 ^ 64)
 
 both : (a b : Bool) (n : ℕ) → a ≡ true → b ≡ true → cond (a && b) (Some n) None ≡ Some n
 both true true n e h = refl
@@ -22,8 +26,8 @@ not_both false b n h = refl
 pub number_some : (text : List ℕ) (n : ℕ) → IsNumber text n → number_in text ≡ Some n
 unfolding number_in
 number_some text n number =
-    let small = number.fits in
-    let is = number.digits in
+    let small = number.1 in
+    let is = number.0 in
     let value : digits_value 10 text ≡ n = ap (digits_value 10) is ∙ (decimal_is_IsNumeral n small).1 in
     let same : text ≡ decimal (digits_value 10 text) = is ∙ ap decimal (sym value) in
     both (nat_lt (digits_value 10 text) (2 ^ 64)) (bytes_eq text (decimal (digits_value 10 text))) (digits_value 10 text)
@@ -36,10 +40,10 @@ pub number_none : (text : List ℕ) → ((n : ℕ) → IsNumber text n → ⊥) 
 unfolding number_in
 number_none text none =
     not_both (nat_lt (digits_value 10 text) (2 ^ 64)) (bytes_eq text (decimal (digits_value 10 text))) (digits_value 10 text)
-    (λ small same. none (digits_value 10 text) (record {
-      digits = (bytes_eq-Decides text (decimal (digits_value 10 text))).0 same;
-      fits = ltb-true (digits_value 10 text) (2 ^ 64) small;
-    }))
+    (λ small same. none (digits_value 10 text) (
+      (bytes_eq-Decides text (decimal (digits_value 10 text))).0 same,
+      ltb-true (digits_value 10 text) (2 ^ 64) small,
+    ))
 
 -- two numbers with the same digits are one
 pub same_number : (m n : ℕ) → m < 2 ^ 64 → n < 2 ^ 64 → decimal m ≡ decimal n → m ≡ n

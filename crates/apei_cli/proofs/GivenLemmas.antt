@@ -1,8 +1,8 @@
 -- What fits an option's text.
 use Rattle.std.proofs.Common.{◌≡◌, ℕ, Option, Some, None, sym, ◌∙◌}
 use Rattle.clap.specs.Words.{Text}
-use Rattle.apei_cli.proofs.DecimalLemmas.{number_some}
-use Rattle.apei_cli.specs.Decimals.{IsNumber, number_in}
+use Rattle.apei_cli.proofs.DecimalLemmas.{IsNumber, number_some}
+use Rattle.apei_cli.specs.Decimals.{number_in}
 use Rattle.apei_cli.specs.Plan.{IsCount, IsGiven, IsGivenOr}
 use Rattle.apei_cli.specs.declared.job.Job.{Job}
 

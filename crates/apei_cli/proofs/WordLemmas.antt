@@ -4,9 +4,8 @@ use Rattle.std.specs.Prelude.{String, string_bytes, option_map}
 use Rattle.std.specs.declared.alloc.Global.{Global}
 use Rattle.apei_check.specs.declared.text.show.Show.{Show}
 use Rattle.clap.specs.Words.{Text, Row, matches_of}
-use Rattle.apei_cli.proofs.DecimalLemmas.{same_number}
+use Rattle.apei_cli.proofs.DecimalLemmas.{IsNumber, same_number}
 use Rattle.apei_cli.specs.CommandWords.{the_command}
-use Rattle.apei_cli.specs.Decimals.{IsNumber}
 use Rattle.apei_cli.specs.declared.job.Job.{Job}
 use Rattle.apei_cli.specs.declared.job.Plan.{Plan}
 use Rattle.apei_cli.specs.declared.setting.Setting.TheVariants.{Image, Sector, PerSlot, Slots, Steps, Cut, Fail, FailRead, Torn, Count, Seed, Show as TheShow}
@@ -14,7 +13,7 @@ use Rattle.clap_words.specs.Commands.{texts_of}
 use Rattle.apei_cli.specs.Plan.{IsCount, IsGiven, IsGivenOr, IsImage, IsPlanIn, IsPlanOf, IsShow, given}
 
 one_number : (text : Text) (m n : ℕ) → IsNumber text m → IsNumber text n → m ≡ n
-one_number text m n a b = same_number m n a.fits b.fits (sym a.digits ∙ b.digits)
+one_number text m n a b = same_number m n a.1 b.1 (sym a.0 ∙ b.0)
 
 given_once : (most : ℕ) (text : Option Text) (one other : Option ℕ) → IsGiven most text one → IsGiven most text other → one ≡ other
 given_once most None None None a b = refl

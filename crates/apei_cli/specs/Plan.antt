@@ -1,5 +1,5 @@
 -- The plan that a command line makes.
-use Rattle.std.specs.Prelude.{◌≡◌, ◌||◌, ℕ, ⊤, ◌^◌, ◌-◌, ◌<◌, ◌≤◌, true, false, not, List, length, Option, Some, None, is_some, option_and_then, String, string_bytes, Ok, codes}
+use Rattle.std.specs.Prelude.{◌≡◌, ◌||◌, ℕ, ⊤, ◌^◌, ◌-◌, ◌<◌, ◌≤◌, true, false, not, List, length, Option, Some, None, is_some, option_and_then, String, string_bytes, Ok, codes, decimal}
 use Rattle.std.specs.List.{AllPass}
 use Rattle.std.specs.declared.alloc.Global.{Global}
 use Rattle.bitflags.specs.Text.{name_piece, read_text}
@@ -8,7 +8,6 @@ use Rattle.apei_check.specs.declared.text.show.Show.{Show}
 use Rattle.clap.specs.Words.{Row, Text, first_of, matches_of, takes}
 use Rattle.clap_words.specs.Commands.{texts_of}
 use Rattle.apei_cli.specs.CommandWords.{belongs, is, job_of, name_of, settings, the_command}
-use Rattle.apei_cli.specs.Decimals.{IsNumber}
 use Rattle.apei_cli.specs.declared.job.Job.{Job}
 use Rattle.apei_cli.specs.declared.job.Plan.{Plan}
 use Rattle.apei_cli.specs.declared.job.Job.TheVariants.{Play, Gen}
@@ -19,9 +18,9 @@ use Rattle.apei_cli.specs.declared.setting.Setting.TheVariants.{Image, Sector, P
 abbrev pub given : Setting → List Row → Option Text
 given setting rows = first_of (name_of setting) rows
 
--- a text is a number of at most `most`
+-- a text is a number of at most `most` in decimal digits: it has no sign, and no zero before other digits
 abbrev pub IsNumberUpTo : ℕ → Text → ℕ → Type 0
-IsNumberUpTo most text n = IsNumber text n × (n ≤ most)
+IsNumberUpTo most text n = ((text ≡ decimal n) × (n < 2 ^ 64)) × (n ≤ most)
 
 -- the number that an option was given, or none where it was not given
 abbrev pub IsGiven : ℕ → Option Text → Option ℕ → Type 0

@@ -1,6 +1,6 @@
 // A number in decimal digits.
-ghost use Rattle.std.specs.Prelude.{◌≡◌, ℕ, MatchOption};
-ghost use Rattle.apei_cli.specs.Decimals.{IsNumber, number_in};
+ghost use Rattle.std.specs.Prelude.{◌≡◌, ℕ, ◌<◌, ◌^◌, MatchOption, decimal};
+ghost use Rattle.apei_cli.specs.Decimals.{number_in};
 ghost use Rattle.apei_cli.specs.Plan.{IsNumberUpTo};
 
 use itoa::Buffer;
@@ -16,7 +16,8 @@ pub(crate) fn number_up_to(text: &[u8], most: u64) -> Option<u64>
 
 // The number that a text is, without a sign and without a zero before other digits.
 fn number(text: &[u8]) -> Option<u64>
-    ensures number { MatchOption result ((n : ℕ) → ¬ IsNumber text.now n) (IsNumber text.now) }
+    ensures number { MatchOption result ((n : ℕ) → ¬ ((text.now ≡ decimal n) × (n < 2 ^ 64)))
+        (λ n. (text.now ≡ decimal n) × (n < 2 ^ 64)) }
     ensures value { result ≡ number_in text.now }
 {
     let Ok(digits) = from_utf8(text) else {
