@@ -4,7 +4,7 @@ use Rattle.std.proofs.lemmas.Bool.{cases_Bool, cond-true, cond-false}
 use Rattle.std.proofs.lemmas.List.{nil_from_length, take-append-drop, drop_at, length-take}
 use Rattle.base_model.specs.Bytes.{AreBytes}
 use Rattle.base_model.proofs.BytesLemmas.{AreBytes-drop}
-use Rattle.apei_bytes.specs.Walk.{Walk, amount, unless_fault, or_fault, items_in, item_count, AreItems}
+use Rattle.apei_bytes.specs.Walk.{Walk, items_in, item_count, AreItems}
 
 -- a walk gets on: where nothing is left it ends, and an item has bytes, which are there
 pub record GetsOn {X E : Type 0} (walk : Walk X E) : Type 0 where
@@ -36,20 +36,25 @@ some_left : {X E : Type 0} (walk : Walk X E) (rest : List ℕ) → GetsOn walk �
 some_left walk [] g h = let clash : ◌≡◌ {A = Bool} true false = sym g.empty ∙ h in absurd (cc)
 some_left walk (byte ∷ rest) g h = omega arith
 
+-- by the length of the item that stands first
+abbrev count_by_length : {X E : Type 0} → Walk X E → ℕ → ℕ → ℕ → List ℕ → Result ℕ E → Result ℕ E
+count_by_length walk most index at rest (Ok len) = item_count walk most (index + 1) (at + len) (drop len rest)
+count_by_length walk most index at rest (Err error) = Err error
+
+abbrev items_by_length : {X E : Type 0} → Walk X E → ℕ → ℕ → ℕ → List ℕ → Result ℕ E → List X
+items_by_length walk most index at rest (Ok len) = walk.item at rest len ∷ items_in walk most (index + 1) (at + len) (drop len rest)
+items_by_length walk most index at rest (Err error) = []
+
 -- at a fault
 fault_now : {X E : Type 0} (walk : Walk X E) (most index at : ℕ) (rest : List ℕ) (error : E) → walk.ends rest ≡ false → walk.size index at rest ≡ Err error → item_count walk (suc most) index at rest ≡ Err error
 unfolding item_count
-fault_now {X} {E} walk most index at rest error h e =
-    let len = amount (walk.size index at rest) in
-    cond-false (walk.ends rest) (Ok index) _ h
-    ∙ ap (λ (r : Result ℕ E). or_fault r (item_count walk most (index + 1) (at + len) (drop len rest))) e
+fault_now walk most index at rest error h e =
+    cond-false (walk.ends rest) (Ok index) _ h ∙ ap (count_by_length walk most index at rest) e
 
 items_fault_now : {X E : Type 0} (walk : Walk X E) (most index at : ℕ) (rest : List ℕ) (error : E) → walk.ends rest ≡ false → walk.size index at rest ≡ Err error → items_in walk (suc most) index at rest ≡ []
 unfolding items_in
-items_fault_now {X} {E} walk most index at rest error h e =
-    let len = amount (walk.size index at rest) in
-    cond-false (walk.ends rest) [] _ h
-    ∙ ap (λ (r : Result ℕ E). unless_fault r (walk.item at rest len ∷ items_in walk most (index + 1) (at + len) (drop len rest))) e
+items_fault_now walk most index at rest error h e =
+    cond-false (walk.ends rest) [] _ h ∙ ap (items_by_length walk most index at rest) e
 
 pub count_fault : {X E : Type 0} (walk : Walk X E) (most index at : ℕ) (rest : List ℕ) (error : E) → GetsOn walk → walk.ends rest ≡ false → length rest ≤ most → walk.size index at rest ≡ Err error
     → item_count walk most index at rest ≡ Err error
@@ -60,16 +65,14 @@ count_fault walk (suc most) index at rest error g h k e = fault_now walk most in
 on_now : {X E : Type 0} (walk : Walk X E) (most index at n : ℕ) (rest : List ℕ) → walk.ends rest ≡ false → walk.size index at rest ≡ Ok n
     → item_count walk (suc most) index at rest ≡ item_count walk most (index + 1) (at + n) (drop n rest)
 unfolding item_count
-on_now {X} {E} walk most index at n rest h e =
-    cond-false (walk.ends rest) (Ok index) _ h
-    ∙ ap (λ (r : Result ℕ E). or_fault r (item_count walk most (index + 1) (at + amount r) (drop (amount r) rest))) e
+on_now walk most index at n rest h e =
+    cond-false (walk.ends rest) (Ok index) _ h ∙ ap (count_by_length walk most index at rest) e
 
 items_on_now : {X E : Type 0} (walk : Walk X E) (most index at n : ℕ) (rest : List ℕ) → walk.ends rest ≡ false → walk.size index at rest ≡ Ok n
     → items_in walk (suc most) index at rest ≡ walk.item at rest n ∷ items_in walk most (index + 1) (at + n) (drop n rest)
 unfolding items_in
-items_on_now {X} {E} walk most index at n rest h e =
-    cond-false (walk.ends rest) [] _ h
-    ∙ ap (λ (r : Result ℕ E). unless_fault r (walk.item at rest (amount r) ∷ items_in walk most (index + 1) (at + amount r) (drop (amount r) rest))) e
+items_on_now walk most index at n rest h e =
+    cond-false (walk.ends rest) [] _ h ∙ ap (items_by_length walk most index at rest) e
 
 -- the length of an item, or the fault
 data Length {E : Type 0} (r : Result ℕ E) : Type 0 where

@@ -8,34 +8,25 @@ pub record Walk (X E : Type 0) : Type 0 where
   pub size : ℕ → ℕ → List ℕ → Result ℕ E
   pub item : ℕ → List ℕ → ℕ → X
 
-abbrev pub amount : {E : Type 0} → Result ℕ E → ℕ
-amount (Ok len) = len
-amount (Err error) = 0
-
--- nothing where there is a fault
-abbrev pub unless_fault : {X E : Type 0} → Result ℕ E → List X → List X
-unless_fault (Ok len) items = items
-unless_fault (Err error) items = []
-
-abbrev pub or_fault : {E : Type 0} → Result ℕ E → Result ℕ E → Result ℕ E
-or_fault (Ok len) others = others
-or_fault (Err error) others = Err error
-
 -- the items from a place on, as many as there are at most, up to a fault
 unfoldable pub items_in : {X E : Type 0} → Walk X E → ℕ → ℕ → ℕ → List ℕ → List X
 items_in walk zero index at rest = []
 items_in walk (suc most) index at rest =
-    let len = amount (walk.size index at rest) in
     if walk.ends rest then []
-    else unless_fault (walk.size index at rest) (walk.item at rest len ∷ items_in walk most (index + 1) (at + len) (drop len rest))
+    else elim (walk.size index at rest) [
+      | Ok len ↦ walk.item at rest len ∷ items_in walk most (index + 1) (at + len) (drop len rest)
+      | Err error ↦ []
+    ]
 
 -- how many items there are, of which the next has this index and place, or the first fault
 unfoldable pub item_count : {X E : Type 0} → Walk X E → ℕ → ℕ → ℕ → List ℕ → Result ℕ E
 item_count walk zero index at rest = Ok index
 item_count walk (suc most) index at rest =
-    let len = amount (walk.size index at rest) in
     if walk.ends rest then Ok index
-    else or_fault (walk.size index at rest) (item_count walk most (index + 1) (at + len) (drop len rest))
+    else elim (walk.size index at rest) [
+      | Ok len ↦ item_count walk most (index + 1) (at + len) (drop len rest)
+      | Err error ↦ Err error
+    ]
 
 -- the bytes are these items, one after another from a place on, and then a rest of this kind
 abbrev pub AreItems : {X : Type 0} → (ℕ → X → List ℕ → Type 0) → (List ℕ → Type 0) → ℕ → List X → List ℕ → Type 0

@@ -29,13 +29,21 @@ HasFault item bytes fault = (error : ItemError) × IsFault item bytes error × (
 abbrev pub LacksMemory : Item → List ℕ → Type 0
 LacksMemory item bytes = (error : ItemError) × IsFault item bytes error × (fault_of error (length bytes) ≡ None)
 
--- the answer of a check: what is written in the places of the number of parts and of the fault
-abbrev pub ChecksItem : Option Item → List ℕ → (parts : ℕ) → ItemFault → Status → (parts_after : ℕ) → ItemFault → Type 0
-ChecksItem None bytes parts fault status parts_after fault_after = (status ≡ Bad) × (parts_after ≡ 0) × (fault_after ≡ no_item)
-ChecksItem (Some item) bytes parts fault status parts_after fault_after =
-    ((status ≡ Done) × Counts (PartsOf item) bytes parts_after × (fault_after ≡ fault))
-    ⊎ ((status ≡ Bad) × ((found : Fault) × HasFault item bytes found × (fault_after ≡ item_fault found)) × (parts_after ≡ 0))
-    ⊎ ((status ≡ Memory) × LacksMemory item bytes × (parts_after ≡ parts) × (fault_after ≡ fault))
+-- what the caller is told of a check: the number of parts, and the fault
+pub record ToldCheck : Type 0 where
+  pub parts : ℕ
+  pub fault : ItemFault
+
+abbrev pub told_check : (parts : ℕ) → ItemFault → ToldCheck
+told_check parts fault = record { parts = parts; fault = fault }
+
+-- the answer of a check
+abbrev pub ChecksItem : Option Item → List ℕ → ToldCheck → Status → ToldCheck → Type 0
+ChecksItem None bytes old status new = (status ≡ Bad) × (new.parts ≡ 0) × (new.fault ≡ no_item)
+ChecksItem (Some item) bytes old status new =
+    ((status ≡ Done) × Counts (PartsOf item) bytes new.parts × (new.fault ≡ old.fault))
+    ⊎ ((status ≡ Bad) × ((found : Fault) × HasFault item bytes found × (new.fault ≡ item_fault found)) × (new.parts ≡ 0))
+    ⊎ ((status ≡ Memory) × LacksMemory item bytes × (new.parts ≡ old.parts) × (new.fault ≡ old.fault))
 
 -- an item that is well is found, but where a Hardware Error Source Table had no memory
 abbrev pub FindsItem : Option Item → List ℕ → Status → ℕ → Type 0

@@ -1,5 +1,5 @@
 -- What C's calls do with a port.
-use Rattle.std.specs.Prelude.{◌≡◌, ◌⊎◌, ℕ, ◌+◌, ◌-◌, ◌^◌, ◌≤◌, Bool, true, false, List, length, Option, Some, None, Result, MatchResult}
+use Rattle.std.specs.Prelude.{◌≡◌, ◌⊎◌, ℕ, ◌+◌, ◌-◌, ◌^◌, ◌≤◌, Bool, true, false, List, length, Option, Some, None, Result, Ok, Err, MatchResult}
 use Rattle.base_model.specs.Bytes.{part}
 use Rattle.apei_tables.specs.declared.widths.Width.{Width}
 use Rattle.erst_port.specs.declared.due.Kind.{Kind}
@@ -15,24 +15,33 @@ use Rattle.erst_port.specs.Accesses.{number_read, NumberWritten, bytes_read, byt
 use Rattle.erst_port.specs.Changes.{IsDueOn}
 use Rattle.apei_c.specs.declared.status.Status.{Status}
 use Rattle.apei_c.specs.declared.status.Status.TheVariants.{Done, Window as NoWindow, Access, Nothing, Short, Addresses}
-use Rattle.apei_c.specs.declared.structs.MediumChange.{MediumChange}
-use Rattle.apei_c.specs.Buffers.{Fills}
+use Rattle.apei_c.specs.Buffers.{Fills, ToldChange, told_change}
 use Rattle.apei_c.specs.Statuses.{status_of_error, status_of_access}
 
+-- an access to a number: its window, its width, and where it is in the window
+pub record NumberAccess : Type 0 where
+  pub window : Window
+  pub width : Width
+  pub offset : ℕ
+
+-- the access, or the status where the caller's numbers name no window or no width
+abbrev pub access_of : Option Window → Option Width → (offset : ℕ) → Result NumberAccess Status
+access_of None width offset = Err NoWindow
+access_of (Some window) None offset = Err Access
+access_of (Some window) (Some width) offset = Ok (record { window = window; width = width; offset = offset })
+
 -- a read of a number, which takes the place of the one before where it is done
-abbrev pub ReadsNumber : Option Window → Option Width → (offset : ℕ) → PortState → (before : ℕ) → Status → (after : ℕ) → Type 0
-ReadsNumber None width offset port before status after = (status ≡ NoWindow) × (after ≡ before)
-ReadsNumber (Some window) None offset port before status after = (status ≡ Access) × (after ≡ before)
-ReadsNumber (Some window) (Some width) offset port before status after =
-    MatchResult (number_read (location_of window (length port.range) offset width) port width)
+abbrev pub ReadsNumber : Result NumberAccess Status → PortState → (before : ℕ) → Status → (after : ℕ) → Type 0
+ReadsNumber (Err refusal) port before status after = (status ≡ refusal) × (after ≡ before)
+ReadsNumber (Ok access) port before status after =
+    MatchResult (number_read (location_of access.window (length port.range) access.offset access.width) port access.width)
     (λ number. (status ≡ Done) × (after ≡ number)) (λ error. (status ≡ status_of_error error) × (after ≡ before))
 
-abbrev pub WritesNumber : Option Window → Option Width → (offset value : ℕ) → PortState → Status → PortState → Type 0
-WritesNumber None width offset value old status new = (status ≡ NoWindow) × (new ≡ old)
-WritesNumber (Some window) None offset value old status new = (status ≡ Access) × (new ≡ old)
-WritesNumber (Some window) (Some width) offset value old status new =
+abbrev pub WritesNumber : Result NumberAccess Status → (value : ℕ) → PortState → Status → PortState → Type 0
+WritesNumber (Err refusal) value old status new = (status ≡ refusal) × (new ≡ old)
+WritesNumber (Ok access) value old status new =
     (answer : Result (Unit {0}) PortError) × (status ≡ status_of_access answer)
-    × NumberWritten (location_of window (length old.range) offset width) old width value answer new
+    × NumberWritten (location_of access.window (length old.range) access.offset access.width) old access.width value answer new
 
 abbrev pub GetsBytes : (offset : ℕ) → (before : List ℕ) → PortState → Status → (after : List ℕ) → Type 0
 GetsBytes offset before port status after =
@@ -58,13 +67,13 @@ HandsDue Erase bytes before has_room after = (has_room ≡ true) × (after ≡ b
 
 -- the change that is due is told, by its place in the medium; or none is due; or the buffer has no room for its bytes, or it has 2^32 of
 -- them, which no geometry has
-pub data TellsChange (port : PortState) (change : MediumChange) (before : List ℕ) : Status → MediumChange → List ℕ → Type 0 where
-  IsTold : (kind : Kind) (at : ℕ) (bytes after : List ℕ) → IsDueOn port kind at bytes → HandsDue kind bytes before true after
-      → TellsChange port change before Done (record { offset = at; length = length bytes; kind = number_of_kind kind }) after
-  NoChange : IsMade port → TellsChange port change before Nothing change before
-  NoRoom : (kind : Kind) (at : ℕ) (bytes after : List ℕ) → IsDueOn port kind at bytes → HandsDue kind bytes before false after
-      → TellsChange port change before Short change after
-  TooLong : (kind : Kind) (at : ℕ) (bytes : List ℕ) → IsDueOn port kind at bytes → 2 ^ 32 ≤ length bytes → TellsChange port change before Short change before
+pub data TellsChange (port : PortState) (old : ToldChange) : Status → ToldChange → Type 0 where
+  IsTold : (kind : Kind) (at : ℕ) (bytes after : List ℕ) → IsDueOn port kind at bytes → HandsDue kind bytes old.bytes true after
+      → TellsChange port old Done (told_change (record { offset = at; length = length bytes; kind = number_of_kind kind }) after)
+  NoChange : IsMade port → TellsChange port old Nothing old
+  NoRoom : (kind : Kind) (at : ℕ) (bytes after : List ℕ) → IsDueOn port kind at bytes → HandsDue kind bytes old.bytes false after
+      → TellsChange port old Short (told_change old.change after)
+  TooLong : (kind : Kind) (at : ℕ) (bytes : List ℕ) → IsDueOn port kind at bytes → 2 ^ 32 ≤ length bytes → TellsChange port old Short old
 
 -- the change that was due was made
 abbrev pub MakesChange : PortState → Status → PortState → Type 0

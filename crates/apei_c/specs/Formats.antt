@@ -7,7 +7,7 @@ use Rattle.image_survey.specs.declared.format.Content.{Content}
 use Rattle.image_survey.specs.declared.format.Content.TheVariants.{Header, Mark, Erased}
 use Rattle.image_survey.specs.Headers.{medium_size}
 use Rattle.image_survey.specs.Formats.{format_changes}
-use Rattle.apei_c.specs.Buffers.{Fills}
+use Rattle.apei_c.specs.Buffers.{Fills, ToldChange}
 use Rattle.apei_c.specs.declared.status.Status.{Status}
 use Rattle.apei_c.specs.declared.status.Status.TheVariants.{Done, Nothing, Short, Geometry as BadGeometry}
 use Rattle.apei_c.specs.declared.structs.MediumGeometry.{MediumGeometry}
@@ -43,14 +43,14 @@ HandsOut (Mark byte) before has_room after = Fills byte before has_room after
 HandsOut Erased before has_room after = (has_room ≡ true) × (after ≡ before)
 
 -- the next change is told
-abbrev pub TellsNext : Option FormatChange → MediumChange → List ℕ → Status → MediumChange → List ℕ → Type 0
-TellsNext (Some next) change bytes status change_after bytes_after =
-    ((status ≡ Done) × (change_after ≡ change_of next) × HandsOut next.content bytes true bytes_after)
-    ⊎ ((status ≡ Short) × (change_after ≡ change) × HandsOut next.content bytes false bytes_after)
-TellsNext None change bytes status change_after bytes_after = (status ≡ Nothing) × (change_after ≡ change) × (bytes_after ≡ bytes)
+abbrev pub TellsNext : Option FormatChange → ToldChange → Status → ToldChange → Type 0
+TellsNext (Some next) old status new =
+    ((status ≡ Done) × (new.change ≡ change_of next) × HandsOut next.content old.bytes true new.bytes)
+    ⊎ ((status ≡ Short) × (new.change ≡ old.change) × HandsOut next.content old.bytes false new.bytes)
+TellsNext None old status new = (status ≡ Nothing) × (new ≡ old)
 
 -- the answer to a question for a change of a format
-abbrev pub Formats : MediumGeometry → (step : ℕ) → MediumChange → List ℕ → Status → MediumChange → List ℕ → Type 0
-Formats numbers step change bytes status change_after bytes_after =
-    ((geometry : Geometry) × Divides numbers geometry × TellsNext (slice_get (format_changes geometry) step) change bytes status change_after bytes_after)
-    ⊎ ((status ≡ BadGeometry) × DividesNothing numbers × (change_after ≡ change) × (bytes_after ≡ bytes))
+abbrev pub Formats : MediumGeometry → (step : ℕ) → ToldChange → Status → ToldChange → Type 0
+Formats numbers step old status new =
+    ((geometry : Geometry) × Divides numbers geometry × TellsNext (slice_get (format_changes geometry) step) old status new)
+    ⊎ ((status ≡ BadGeometry) × DividesNothing numbers × (new ≡ old))

@@ -1,7 +1,8 @@
 // The calls on a port, each with its status.
 ghost use Rattle.std.specs.Prelude.{◌≡◌};
 ghost use Rattle.apei_c.specs.Numbers.{window_of, width_of, addresses_of};
-ghost use Rattle.apei_c.specs.Devices.{ReadsNumber, WritesNumber, GetsBytes, PutsBytes, Restarts, TellsChange, MakesChange, TellsTable, TellsRangeSize, TellsImage, MovesTo, HandsDue, number_of_kind};
+ghost use Rattle.apei_c.specs.Buffers.{told_change};
+ghost use Rattle.apei_c.specs.Devices.{access_of, ReadsNumber, WritesNumber, GetsBytes, PutsBytes, Restarts, TellsChange, MakesChange, TellsTable, TellsRangeSize, TellsImage, MovesTo, HandsDue, number_of_kind};
 
 use crate::buffers::fill;
 use crate::numbers::{addresses_of, width_of, window_of};
@@ -11,7 +12,7 @@ use apei_space::get_part;
 use erst_port::{Due, Kind, Port};
 
 pub fn read(port: &Port, window: u32, offset: u64, size: u32, value: &mut u64) -> Status
-    ensures { ReadsNumber (window_of window) (width_of size) offset port.now value.old result value.new }
+    ensures { ReadsNumber (access_of (window_of window) (width_of size) offset) port.now value.old result value.new }
 {
     let Some(window) = window_of(window) else {
         return Status::Window;
@@ -29,7 +30,7 @@ pub fn read(port: &Port, window: u32, offset: u64, size: u32, value: &mut u64) -
 }
 
 pub fn write(port: &mut Port, window: u32, offset: u64, size: u32, value: u64) -> Status
-    ensures { WritesNumber (window_of window) (width_of size) offset value port.old result port.new }
+    ensures { WritesNumber (access_of (window_of window) (width_of size) offset) value port.old result port.new }
 {
     let Some(window) = window_of(window) else {
         return Status::Window;
@@ -86,7 +87,7 @@ fn hand_out(due: &Due<'_>, bytes: &mut [u8]) -> bool
 }
 
 pub fn change(port: &Port, change: &mut MediumChange, bytes: &mut [u8]) -> Status
-    ensures { TellsChange port.now change.old bytes.old result change.new bytes.new }
+    ensures { TellsChange port.now (told_change change.old bytes.old) result (told_change change.new bytes.new) }
 {
     let Some(due) = port.next_due() else {
         return Status::Nothing;

@@ -3,7 +3,7 @@ ghost use Rattle.std.specs.Prelude.{◌≡◌};
 ghost use Rattle.apei_c.specs.declared.status.Status.{Status as AnyStatus};
 ghost use Rattle.apei_c.specs.Statuses.{number_of};
 ghost use Rattle.apei_c.specs.Numbers.{item_of};
-ghost use Rattle.apei_c.specs.Checks.{ChecksItem, TellsPart, FindsItem, FindsPart, item_fault, item_part, no_item};
+ghost use Rattle.apei_c.specs.Checks.{told_check, ChecksItem, TellsPart, FindsItem, FindsPart, item_fault, item_part, no_item};
 
 use crate::numbers::item_of;
 use crate::status::Status;
@@ -51,7 +51,8 @@ fn check_item(
     parts: &mut u32,
     fault: &mut ItemFault,
 ) -> Status
-    ensures checked { ChecksItem (item_of item) bytes.now parts.old fault.old result parts.new fault.new }
+    ensures checked { ChecksItem (item_of item) bytes.now (told_check parts.old fault.old) result
+        (told_check parts.new fault.new) }
     ensures found { FindsItem (item_of item) bytes.now result parts.new }
 {
     let Some(item) = item_of(item) else {
@@ -105,7 +106,7 @@ pub extern "C" fn apei_c_check(
     fault: &mut ItemFault,
 ) -> u32
     ensures { (status : AnyStatus) × (result ≡ number_of status)
-        × ChecksItem (item_of item) bytes.now parts.old fault.old status parts.new fault.new
+        × ChecksItem (item_of item) bytes.now (told_check parts.old fault.old) status (told_check parts.new fault.new)
         × FindsItem (item_of item) bytes.now status parts.new }
 {
     check_item(alloc, item, bytes, parts, fault).number()

@@ -1,8 +1,9 @@
 // The calls on a device.
 ghost use Rattle.std.specs.Prelude.{◌≡◌};
 ghost use Rattle.apei_c.specs.Numbers.{window_of, width_of, addresses_of};
+ghost use Rattle.apei_c.specs.Buffers.{told_change};
 ghost use Rattle.apei_c.specs.Handles.{OnPort, LooksAt};
-ghost use Rattle.apei_c.specs.Devices.{ReadsNumber, WritesNumber, GetsBytes, PutsBytes, Restarts, TellsChange, MakesChange, TellsTable, TellsRangeSize, TellsImage, MovesTo};
+ghost use Rattle.apei_c.specs.Devices.{access_of, ReadsNumber, WritesNumber, GetsBytes, PutsBytes, Restarts, TellsChange, MakesChange, TellsTable, TellsRangeSize, TellsImage, MovesTo};
 
 use crate::calls;
 use crate::handle::Handle;
@@ -20,7 +21,7 @@ pub extern "C" fn apei_c_erst_read(
 ) -> u32
     ensures { LooksAt erst.old.owner.port result erst.new.owner.port
         (value.new ≡ value.old)
-        (λ port status. ReadsNumber (window_of window) (width_of size) offset port value.old status value.new) }
+        (λ port status. ReadsNumber (access_of (window_of window) (width_of size) offset) port value.old status value.new) }
 {
     let Some(port) = erst.port() else {
         return Status::Closed.number();
@@ -37,8 +38,8 @@ pub extern "C" fn apei_c_erst_write(
     size: u32,
     value: u64,
 ) -> u32
-    ensures { OnPort erst.old.owner.port result erst.new.owner.port (WritesNumber (window_of window)
-        (width_of size) offset value) }
+    ensures { OnPort erst.old.owner.port result erst.new.owner.port
+        (WritesNumber (access_of (window_of window) (width_of size) offset) value) }
 {
     let Some(port) = erst.port() else {
         return Status::Closed.number();
@@ -79,7 +80,7 @@ pub extern "C" fn apei_c_erst_change(
 ) -> u32
     ensures { LooksAt erst.old.owner.port result erst.new.owner.port
         ((change.new ≡ change.old) × (bytes.new ≡ bytes.old))
-        (λ port status. TellsChange port change.old bytes.old status change.new bytes.new) }
+        (λ port status. TellsChange port (told_change change.old bytes.old) status (told_change change.new bytes.new)) }
 {
     let Some(port) = erst.port() else {
         return Status::Closed.number();

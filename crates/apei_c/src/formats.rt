@@ -3,6 +3,7 @@ ghost use Rattle.std.specs.Prelude.{◌≡◌, ◌<◌, ◌^◌, Some, IfSome, I
 ghost use Rattle.flash_model.specs.Limits.{IsGeometry};
 ghost use Rattle.apei_c.specs.declared.status.Status.{Status as AnyStatus};
 ghost use Rattle.apei_c.specs.Statuses.{number_of};
+ghost use Rattle.apei_c.specs.Buffers.{told_change};
 ghost use Rattle.apei_c.specs.Formats.{Divides, TellsSize, TellsNext, Formats, HandsOut, kind_of};
 
 use crate::buffers::fill;
@@ -55,7 +56,7 @@ fn hand_out(content: &Content, bytes: &mut [u8]) -> bool
 
 fn tell_next(next: &FormatChange, change: &mut MediumChange, bytes: &mut [u8]) -> Status
     requires { next.now.len < 2 ^ 32 }
-    ensures { TellsNext (Some next.now) change.old bytes.old result change.new bytes.new }
+    ensures { TellsNext (Some next.now) (told_change change.old bytes.old) result (told_change change.new bytes.new) }
 {
     if !hand_out(&next.content, bytes) {
         return Status::Short;
@@ -74,7 +75,7 @@ fn tell_change(
     change: &mut MediumChange,
     bytes: &mut [u8],
 ) -> Status
-    ensures { Formats numbers.now step change.old bytes.old result change.new bytes.new }
+    ensures { Formats numbers.now step (told_change change.old bytes.old) result (told_change change.new bytes.new) }
 {
     let Some(geometry) = geometry_of(numbers) else {
         return Status::Geometry;
@@ -102,7 +103,7 @@ pub extern "C" fn apei_c_format_change(
     bytes: &mut [u8],
 ) -> u32
     ensures { (status : AnyStatus) × (result ≡ number_of status)
-        × Formats geometry.now step change.old bytes.old status change.new bytes.new }
+        × Formats geometry.now step (told_change change.old bytes.old) status (told_change change.new bytes.new) }
 {
     tell_change(geometry, step, change, bytes).number()
 }

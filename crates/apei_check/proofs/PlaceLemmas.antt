@@ -1,10 +1,10 @@
 -- The places of a block's entries.
-use Rattle.std.proofs.Common.{◌≡◌, ℕ, zero, suc, ◌+◌, ◌<◌, ◌≤◌, List, [], ◌∷◌, ◌++◌, length, take, Some, refl, sym, ap, ◌∙◌, arith, length-append}
+use Rattle.std.proofs.Common.{◌≡◌, ℕ, zero, suc, ◌+◌, ◌<◌, ◌≤◌, cond, List, [], ◌∷◌, ◌++◌, length, take, Some, refl, sym, ap, ◌∙◌, arith, length-append}
 use Rattle.std.specs.Prelude.{slice_get}
 use Rattle.std.proofs.lemmas.Option.{slice_get_within}
 use Rattle.base_model.specs.Bytes.{spelled, joined}
 use Rattle.base_model.proofs.BytesLemmas.{length-spelled}
-use Rattle.ghes_block.specs.Grammar.{EntryValue, is_stamped, stamp_bytes, entry_bytes, entries_bytes}
+use Rattle.ghes_block.specs.Grammar.{EntryValue, is_stamped, entry_bytes, entries_bytes}
 use Rattle.ghes_block.specs.Entries.{place_of, EntryAt}
 
 some_of : (a b c d e : List ℕ) → length b ≡ 4 → 0 < length (a ++ (b ++ c) ++ d ++ e)
@@ -22,7 +22,7 @@ entry_some entry =
     let head = entry.head in
     some_of head.kind (spelled 4 head.severity)
     (joined (spelled 2 head.revision ∷ spelled 1 head.validation ∷ spelled 1 head.flags ∷ spelled 4 (length entry.body) ∷ head.fru ∷ head.fru_text ∷ []))
-    (stamp_bytes (is_stamped head.revision) head.stamp)
+    (cond (is_stamped head.revision) (spelled 8 head.stamp) [])
     entry.body
     (length-spelled 4 head.severity)
 

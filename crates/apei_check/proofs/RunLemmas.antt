@@ -8,15 +8,16 @@ use Rattle.script_text.specs.declared.check_line.CheckLine.{CheckLine}
 use Rattle.script_lines.specs.Lines.{Line, Reading, lines_of, IsNextLine}
 use Rattle.script_lines.specs.Causes.{HasSourceCause, HasSinkCause}
 use Rattle.script_lines.specs.Played.{IsLineOf, AreInGrammar}
+use Rattle.script_lines.specs.Streams.{stream_of}
 use Rattle.script_lines.specs.Reads.{HasRead, StandsAt, AreReadInOrder, last_line}
-use Rattle.script_lines.specs.Ends.{EndsReading, IsBadFrom, fault_of}
+use Rattle.script_lines.specs.Ends.{EndsReading, fault_of}
 use Rattle.script_lines.specs.declared.ending.ScriptEnd.{ScriptEnd}
 use Rattle.apei_check.specs.Shown.{Shows, ShowsPart}
 use Rattle.apei_check.specs.declared.text.show.Show.{Show}
 use Rattle.apei_check.specs.Texts.{AreShownBy, TakesMemory}
 use Rattle.apei_check.specs.Checks.{ChecksScript, MayWantMemory, WritesAll, WritesByEnd}
 use Rattle.script_lines.specs.declared.ending.ScriptEnd.TheVariants.{Done, BadLine, SourceFault, SinkFault, TooLong, Memory}
-use Rattle.script_lines.proofs.PlayedLemmas.{is_line, is_bad, stops_at, ends_behind, ends_none as lines_end, is_done as lines_done}
+use Rattle.script_lines.proofs.PlayedLemmas.{IsBadFrom, is_line, is_bad, stops_at, ends_behind, ends_none as lines_end, is_done as lines_done}
 use Rattle.apei_check.proofs.TextLemmas.{writes_next, writes_part}
 use Rattle.apei_check.proofs.GrammarLemmas.{is_read}
 
@@ -46,7 +47,7 @@ module _ (told_source told_sink : Type 0) (show : Show) (script rest rest_now wr
 
   -- it was shown in part
   pub ends_unwritten : (now : List ℕ) → (told_source → StandsAt script so_far.lines b.number (last_line b)) → ShowsPart told_sink (AreShownBy show (checked_line_of line)) middle now
-      → ChecksScript told_source told_sink show script rest_now written now SinkFault
+      → ChecksScript (stream_of told_source script rest_now) (stream_of told_sink written now) show SinkFault
   ends_unwritten now stands shows =
       let read = is_read text line is in
       record {
@@ -58,7 +59,7 @@ module _ (told_source told_sink : Type 0) (show : Show) (script rest rest_now wr
 
   -- there was no memory for it
   pub ends_memory : (now : List ℕ) → (told_source → StandsAt script so_far.lines b.number (last_line b)) → TakesMemory (checked_line_of line) → now ≡ middle
-      → ChecksScript told_source told_sink show script rest_now written now Memory
+      → ChecksScript (stream_of told_source script rest_now) (stream_of told_sink written now) show Memory
   ends_memory now stands takes left =
       let read = is_read text line is in
       let wants : MayWantMemory text = record { asked = read.asked; written = read.written; takes = read.takes takes } in
@@ -80,7 +81,7 @@ writes_by told_source told_sink show rest rest_now written now a b lines Memory 
 
 -- there is no next line
 pub ends_none : (told_source told_sink : Type 0) (order : AreReadInOrder told_source) (show : Show) (script rest rest_now written now : List ℕ) (a b : Reading) (ending : ScriptEnd)
-    → SoFar told_source told_sink show script rest written now a → EndsReading told_source a b rest rest_now ending → ChecksScript told_source told_sink show script rest_now written now ending
+    → SoFar told_source told_sink show script rest written now a → EndsReading told_source a b rest rest_now ending → ChecksScript (stream_of told_source script rest_now) (stream_of told_sink written now) show ending
 ends_none told_source told_sink order show script rest rest_now written now a b ending so_far end = record {
   lines = so_far.lines;
   ends = lines_end IsCheckLine MayWantMemory told_source script rest rest_now so_far.lines a b ending order so_far.read end;
@@ -90,7 +91,7 @@ ends_none told_source told_sink order show script rest rest_now written now a b 
 -- the line that was read is none
 pub ends_bad : (told_source told_sink : Type 0) (show : Show) (script rest rest_now written now text : List ℕ) (a b : Reading) (number column : ℕ) → (so_far : SoFar told_source told_sink show script rest written now a)
     → IsNextLine told_source a b rest rest_now → (told_source → StandsAt script so_far.lines b.number (last_line b)) → number ≡ b.number → text ≡ b.line → BreaksAt IsCheckLine text column
-    → ChecksScript told_source told_sink show script rest_now written now (BadLine number column)
+    → ChecksScript (stream_of told_source script rest_now) (stream_of told_sink written now) show (BadLine number column)
 ends_bad told_source told_sink show script rest rest_now written now text a b number column so_far next stands numbered same breaks = record {
   lines = so_far.lines;
   ends = λ told. stops_at (IsBadFrom IsCheckLine column) script so_far.lines (last_line b) number b.number numbered (stands told) (is_bad IsCheckLine told_source a b rest rest_now text column next same breaks);
@@ -99,7 +100,7 @@ ends_bad told_source told_sink show script rest rest_now written now text a b nu
 
 -- where all lines are in the grammar and no fault was counted, all are read
 pub is_done : (told_source told_sink : Type 0) (show : Show) (script rest written now : List ℕ) (source source_now sink sink_now : ℕ) (ending : ScriptEnd)
-    → ChecksScript told_source told_sink show script rest written now ending → HasSourceCause source source_now (fault_of ending) → HasSinkCause sink sink_now (fault_of ending)
+    → ChecksScript (stream_of told_source script rest) (stream_of told_sink written now) show ending → HasSourceCause source source_now (fault_of ending) → HasSinkCause sink sink_now (fault_of ending)
     → told_source → AreInGrammar IsCheckLine (lines_of 0 script) → (Rose source source_now → ⊥) → (Rose sink sink_now → ⊥) → (ending ≡ Done) ⊎ (ending ≡ Memory)
 is_done told_source told_sink show script rest written now source source_now sink sink_now ending checks in_cause out_cause told all no_source no_sink =
     lines_done IsCheckLine MayWantMemory script rest checks.lines source source_now sink sink_now ending (checks.ends told) in_cause out_cause all no_source no_sink

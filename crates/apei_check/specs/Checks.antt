@@ -4,6 +4,7 @@ use Rattle.script_text.specs.CheckGrammar.{CheckedLine, IsCheckLine}
 use Rattle.script_text.specs.CheckText.{IsCheckWritten}
 use Rattle.script_lines.specs.Lines.{Line}
 use Rattle.script_lines.specs.Played.{EndsBehind}
+use Rattle.script_lines.specs.Streams.{Stream}
 use Rattle.apei_check.specs.declared.text.show.Show.{Show}
 use Rattle.apei_check.specs.Texts.{IsTextOf, IsTextOfAll, TakesMemory}
 use Rattle.script_lines.specs.declared.ending.ScriptEnd.{ScriptEnd}
@@ -38,7 +39,7 @@ WritesByEnd told show lines written written_now SinkFault = WritesUpTo told show
 WritesByEnd told show lines written written_now ending = WritesAll told show lines written written_now
 
 -- lines of a script were shown, each once and in order, and what was written is what they show
-pub record ChecksScript (told_source told_sink : Type 0) (show : Show) (script rest written written_now : List ℕ) (ending : ScriptEnd) : Type 0 where
+pub record ChecksScript (source sink : Stream) (show : Show) (ending : ScriptEnd) : Type 0 where
   pub lines : List Line
-  pub ends : told_source → EndsBehind IsCheckLine MayWantMemory script rest lines ending
-  pub writes : WritesByEnd told_sink show lines written written_now ending
+  pub ends : source.tells → EndsBehind IsCheckLine MayWantMemory source.before source.after lines ending
+  pub writes : WritesByEnd sink.tells show lines sink.before sink.after ending

@@ -6,6 +6,7 @@ ghost use Rattle.script_lines.specs.Ends.{fault_of};
 ghost use Rattle.script_lines.specs.Lines.{lines_of};
 ghost use Rattle.script_lines.specs.Played.{AreInGrammar};
 ghost use Rattle.script_lines.specs.Reads.{first_reading};
+ghost use Rattle.script_lines.specs.Streams.{stream_of};
 ghost use Rattle.script_text.specs.CheckGrammar.{IsCheckLine};
 ghost use Rattle.apei_check.specs.Checks.{ChecksScript};
 
@@ -29,8 +30,8 @@ fn check_lines<I: Source, O: Sink>(
     requires room { length buffer.old ≡ LONGEST_BYTES }
     ensures source { HasSourceCause (I.faults script.old) (I.faults script.new) (fault_of result) }
     ensures sink { HasSinkCause (O.faults out.old) (O.faults out.new) (fault_of result) }
-    ensures checked { ChecksScript I.tells O.tells show (I.rest script.old) (I.rest script.new) (O.written out.old)
-        (O.written out.new) result }
+    ensures checked { ChecksScript (stream_of I.tells (I.rest script.old) (I.rest script.new))
+        (stream_of O.tells (O.written out.old) (O.written out.new)) show result }
 {
     lines_are_read_in_order::<I>();
     'lines: loop {
@@ -67,8 +68,8 @@ pub fn check_script<I: Source, O: Sink>(
 ) -> ScriptEnd
     // Where there is no memory to begin with, nothing was touched.
     ensures checked { ((result ≡ ScriptEnd.Memory) × (script.new ≡ script.old) × (out.new ≡ out.old))
-        ⊎ ChecksScript I.tells O.tells show (I.rest script.old) (I.rest script.new) (O.written out.old)
-        (O.written out.new) result }
+        ⊎ ChecksScript (stream_of I.tells (I.rest script.old) (I.rest script.new))
+        (stream_of O.tells (O.written out.old) (O.written out.new)) show result }
     ensures source { HasSourceCause (I.faults script.old) (I.faults script.new) (fault_of result) }
     ensures sink { HasSinkCause (O.faults out.old) (O.faults out.new) (fault_of result) }
     // A script whose lines are all in the grammar and within the lengths is read to its end, want of memory aside.

@@ -16,13 +16,13 @@ use Rattle.apei_script.specs.Words.{Reply, text_of_replies}
 use Rattle.apei_script.specs.Plays.{Stage, LinePlayed, HasHappened, FailsRestart, PartlyWritten, PlaysLine, PlaysUnwritten, Stops, Told, step_of, stage_in, played_as}
 use Rattle.erst_machine.specs.Shown.{changes_of}
 use Rattle.apei_script.specs.History.{Played, Follows, AreCounted, blocks_of, reply_of, text_of, heard_after}
-use Rattle.script_lines.specs.Ends.{IsBadFrom, EndsReading}
+use Rattle.script_lines.specs.Ends.{EndsReading}
 use Rattle.script_lines.specs.declared.ending.ScriptEnd.{ScriptEnd}
 use Rattle.script_lines.specs.declared.ending.ScriptEnd.TheVariants as ending
 use Rattle.script_lines.specs.Lines.{Line, Reading, IsNextLine}
-use Rattle.script_lines.specs.Played.{IsLineOf, ArePlayed, StopsAt, PlaysByFault}
+use Rattle.script_lines.specs.Played.{IsLineOf, StopsAt, PlaysByFault}
 use Rattle.script_lines.specs.Reads.{HasRead, AreReadInOrder, last_line}
-use Rattle.script_lines.proofs.PlayedLemmas.{ArePlayed-push, is_bad, stops_at, ends_behind, whole, ends_none as lines_end}
+use Rattle.script_lines.proofs.PlayedLemmas.{ArePlayed, IsBadFrom, ArePlayed-push, is_bad, stops_at, ends_behind, whole, ends_none as lines_end}
 use Rattle.apei_cli.specs.Statuses.{IsUnwritten, LeavesLast, status_of, LinesOf}
 use Rattle.apei_cli.proofs.Terms.{GivesTable, FailsInRestart}
 use Rattle.apei_cli.specs.Runs.{PlaysLines}

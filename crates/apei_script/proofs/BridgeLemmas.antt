@@ -128,7 +128,7 @@ not_taken turn false h e taken = false≢true (h.1 taken)
 -- it is a turn of the reader
 reader_took : (tells : Type 0) (client : ClientState) (budget : ℕ) (old : MachineState) (state : BridgeState) (event : BridgeEvent) (next : BridgeState) (left : ℕ) (new : MachineState)
     → BridgesMachine tells client budget old state event next left new → event ≡ ByReader Took → Turns Reader old Took new
-reader_took tells client budget old state event next left new turn = elim turn as (λ state event next left new turn. event ≡ ByReader Took → Turns Reader old Took new) [
+reader_took tells client budget old state event next left new turn = elim turn as (λ state event after turn. event ≡ ByReader Took → Turns Reader old Took after.station) [
   | TurnsReader id state event new none reads ↦ λ is. subst (λ (e : Event). Turns Reader old e new) (same_line event is) reads
   | Stores id block left new small writes ↦ λ is. absurd (cc is)
   | Keeps id block error left new small writes ↦ λ is. absurd (cc is)

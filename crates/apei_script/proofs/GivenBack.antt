@@ -87,8 +87,8 @@ module _ (tells : Type 0) where
         → BridgesMachine tells client budget old state event next left new → StandsInStep state old m → StandsInStep next new (handover_after (OfBridge event) m) → KeepsOrder state (OfBridge event) → IsAtHand last state old
         → GivesThen last state old (OfBridge event) next new
     bridge_gives last state old event next left new m turn =
-        elim turn as (λ state event next left new turn. StandsInStep state old m → StandsInStep next new (handover_after (OfBridge event) m) → KeepsOrder state (OfBridge event) → IsAtHand last state old
-        → GivesThen last state old (OfBridge event) next new) [
+        elim turn as (λ state event after turn. StandsInStep state old m → StandsInStep after.bridge after.station (handover_after (OfBridge event) m) → KeepsOrder state (OfBridge event) → IsAtHand last state old
+        → GivesThen last state old (OfBridge event) after.bridge after.station) [
           | TurnsReader id state event new none reads ↦ λ paired behind order held. reader_gives last id state old event new m none reads paired order held
           | Stores id block left new small writes ↦ λ paired behind order held.
               (tt, (id, ap (stored_as id) (paired.step.2 ∙ sym behind.stands.last)))

@@ -25,7 +25,7 @@ module _ (tells : Type 0) (programs : OwnProgramsRun tells) (told : tells) (clie
       → IsTurn tells client budget state old turn next new → SparesTurn id state turn → IsStoredAs id bytes (records_of old) → IsStoredAs id bytes (after_turn state old turn)
   kept_turn state old (OfFirmware event) next new id bytes is spares there = there
   kept_turn state old (OfBridge event) next new id bytes is spares there =
-      elim is.1 as (λ state event next left new turn. SparesTurn id state (OfBridge event) → IsStoredAs id bytes (after_turn state old (OfBridge event))) [
+      elim is.1 as (λ state event after turn. SparesTurn id state (OfBridge event) → IsStoredAs id bytes (after_turn state old (OfBridge event))) [
         | TurnsReader n state event new none reads ↦ λ spares. there
         | Stores n block left new small writes ↦ λ spares. other_stays old block n id bytes (omega arith) spares there
         | Keeps n block error left new small writes ↦ λ spares. other_stays old block n id bytes (omega arith) spares there
@@ -60,7 +60,7 @@ module _ (tells : Type 0) (programs : OwnProgramsRun tells) (told : tells) (clie
   -- a bridge gives an identifier once
   spares_turn : (state : BridgeState) (old : MachineState) (turn : Turn) (next : BridgeState) (new : MachineState) (id : ℕ) → IsTurn tells client budget state old turn next new → IsBeyond id state → SparesTurn id state turn
   spares_turn state old (OfFirmware event) next new id is beyond = tt
-  spares_turn state old (OfBridge event) next new id is beyond = elim is.1 as (λ state event next left new turn. IsBeyond id state → SparesTurn id state (OfBridge event)) [
+  spares_turn state old (OfBridge event) next new id is beyond = elim is.1 as (λ state event after turn. IsBeyond id state → SparesTurn id state (OfBridge event)) [
     | TurnsReader n state event new none reads ↦ λ beyond. tt
     | Stores n block left new small writes ↦ λ beyond e. absurd (omega (arith, e, beyond))
     | Keeps n block error left new small writes ↦ λ beyond e. absurd (omega (arith, e, beyond))

@@ -86,8 +86,8 @@ write_leaves old hex bytes steps result left new decoded answered = elim answere
 
 read_keeps : (old new : MachineState) (id : ℕ) (result : Result (Unit {0}) ClientError) → ReadMade old new id result → KeepsMap old.device.store new.device.store
 read_keeps old new id result made = elim made as (λ result made. KeepsMap old.device.store new.device.store) [
-  | read_made found body generation asked named stored fits shown cursor ↦ asked.leaves.kept
-  | read_refused refusal error asked refused is range cursor ↦ asked.leaves.kept
+  | read_made found body generation asked named stored fits shown cursor ↦ asked.looked.kept
+  | read_refused refusal error asked refused is range cursor ↦ asked.looked.kept
   | read_failed leaves rose range cursor ↦ leaves.kept
 ]
 

@@ -19,7 +19,7 @@ module _ (tells : Type 0) (programs : OwnProgramsRun tells) (told : tells) (clie
   turn_mapped : (state : BridgeState) (old : MachineState) (turn : Turn) (next : BridgeState) (new : MachineState) → client ≡ own_client old → IsMachine old
       → IsTurn tells client budget state old turn next new → TurnIsMapped budget state old turn new
   turn_mapped state old (OfFirmware event) next new own machine is = is.1.device
-  turn_mapped state old (OfBridge event) next new own machine is = elim is.1 as (λ state event next left new turn. TurnIsMapped budget state old (OfBridge event) new) [
+  turn_mapped state old (OfBridge event) next new own machine is = elim is.1 as (λ state event after turn. TurnIsMapped budget state old (OfBridge event) after.station) [
     | TurnsReader id bridge event new none reads ↦ reads.device
     | Stores id block left new small writes ↦ (left, own_write tells programs told client budget old own machine (bridged block id) (Ok tt) left new writes)
     | Keeps id block error left new small writes ↦ (left, own_write tells programs told client budget old own machine (bridged block id) (Err error) left new writes)

@@ -6,6 +6,7 @@ use Rattle.erst_machine.specs.MachineState.{MachineState}
 use Rattle.erst_commands.specs.Attached.{own_client}
 use Rattle.erst_shadow.specs.ShadowCommands.{shadow_client}
 use Rattle.erst_bridge.specs.Bridges.{BridgeState, Off}
+pub use Rattle.erst_bridge.specs.Bridges.{Asker, asker_of}
 
 -- the machine; the client that was attached first; the client of a table that a line gave, which is in use in its place; the steps
 -- that each line is given, none where that is as many as are enough by the client's timings; and the bridge
@@ -31,14 +32,6 @@ budget_by (Some steps) client = steps
 
 abbrev pub budget_of : PlayerState → ℕ
 budget_of state = budget_by state.steps (client_of state)
-
--- who asks a machine for a command: a client, with so many steps
-pub record Asker : Type 0 where
-  pub client : ClientState
-  pub steps : ℕ
-
-abbrev pub asker_of : ClientState → ℕ → Asker
-asker_of client steps = record { client = client; steps = steps }
 
 -- the client in use, with the steps of a line
 abbrev pub asker_in : PlayerState → Asker

@@ -3,8 +3,8 @@ ghost use Rattle.std.specs.Prelude.{◌≡◌, ◌≢◌, ◌≤◌, ◌++◌, �
 ghost use Rattle.base_model.specs.Faults.{HasCause};
 ghost use Rattle.ghes_ack.specs.Machine.{Fits};
 ghost use Rattle.erst_bridge.specs.declared.events.BridgeEvent.TheVariants.{Kept as IsKept};
-ghost use Rattle.erst_bridge.specs.Bridges.{Off};
-ghost use Rattle.erst_bridge.specs.Turns.{OfBridge, IsTurn};
+ghost use Rattle.erst_bridge.specs.Bridges.{Off, asker_of};
+ghost use Rattle.erst_bridge.specs.Turns.{OfBridge, bridged_machine, MakesTurn};
 ghost use Rattle.erst_bridge.specs.Made.{turn_of, side_in};
 ghost use Rattle.script_lines.specs.Streams.{stream_of};
 ghost use Rattle.script_text.specs.ScriptGrammar.{bridge, turns};
@@ -102,7 +102,8 @@ fn bridged_turn<F: Flash>(
     letter: u8,
 ) -> SideTurn
     requires { bridge.old ≢ Off }
-    ensures turn { IsTurn F.tells client.old steps bridge.old machine.old (turn_of result) bridge.new machine.new }
+    ensures turn { MakesTurn F.tells (asker_of client.old steps) (bridged_machine bridge.old machine.old) (turn_of result)
+        (bridged_machine bridge.new machine.new) }
     ensures side { side_in (turn_of result) ≡ side_of letter }
     ensures on { bridge.new ≢ Off }
     ensures client { client.new ≡ client.old }

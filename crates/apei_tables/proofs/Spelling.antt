@@ -5,7 +5,19 @@ use Rattle.base_model.specs.Bytes.{part, number_at, little, spelled, joined, tot
 use Rattle.base_model.proofs.BytesLemmas.{spelled-number_at, little-spelled, length-spelled, length-joined}
 use Rattle.apei_bytes.proofs.Parts.{parts, joined-parts, parts-joined, part-cons}
 use Rattle.apei_tables.specs.declared.headers.Header.{Header}
-use Rattle.apei_tables.specs.Layout.{fields, spelling, HasSizes, IsHeader}
+use Rattle.apei_tables.specs.Layout.{spelling, HasSizes, IsHeader}
+
+abbrev fields : Header → List (List ℕ)
+fields header =
+    header.signature
+    ∷ spelled 4 header.length
+    ∷ (header.revision ∷ header.checksum ∷ [])
+    ∷ header.oem_id
+    ∷ header.oem_table_id
+    ∷ spelled 4 header.oem_revision
+    ∷ header.creator_id
+    ∷ spelled 4 header.creator_revision
+    ∷ []
 
 -- where the fields stand: their sizes, in order
 abbrev pub sizes : List ℕ

@@ -3,9 +3,9 @@ use Rattle.std.specs.Prelude.{◌≡◌, ℕ, ◌<◌, ◌^◌, List, [], ◌∷
 use Rattle.base_model.specs.Bytes.{spelled, joined}
 use Rattle.apei_tables.specs.declared.headers.Header.{Header}
 
--- signature, length, revision and checksum, OEM id, OEM table id, OEM revision, creator id, creator revision
-abbrev pub fields : Header → List (List ℕ)
-fields header =
+-- signature, length, revision and checksum, OEM id, OEM table id, OEM revision, creator id, creator revision, one after another
+unfoldable pub spelling : Header → List ℕ
+spelling header = joined (
     header.signature
     ∷ spelled 4 header.length
     ∷ (header.revision ∷ header.checksum ∷ [])
@@ -14,11 +14,7 @@ fields header =
     ∷ spelled 4 header.oem_revision
     ∷ header.creator_id
     ∷ spelled 4 header.creator_revision
-    ∷ []
-
--- one after another
-unfoldable pub spelling : Header → List ℕ
-spelling header = joined (fields header)
+    ∷ [])
 
 -- the parts that are no numbers have their lengths
 pub record HasSizes (header : Header) : Type 0 where

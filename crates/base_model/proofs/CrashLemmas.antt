@@ -6,7 +6,7 @@ use Rattle.std.proofs.lemmas.Option.{slice_get_past, slice_get_within, none-some
 use Rattle.std.proofs.lemmas.Bool.{cases_lt}
 use Rattle.base_model.specs.Bytes.{SameOutside}
 use Rattle.base_model.proofs.BytesLemmas.{SameOutside-none, SameOutside-refl}
-use Rattle.base_model.specs.Flash.{Change, Told, before_or, image_at, CrashImage, IsLater, Leaves, Changed, MayChange}
+use Rattle.base_model.specs.Flash.{Change, Told, image_at, CrashImage, IsLater, Leaves, Changed, MayChange}
 
 -- a place within a front of a list
 pub slice_get-take : {X : Type 0} → (xs : List X) (n i : ℕ) → i < n → slice_get (take n xs) i ≡ slice_get xs i
@@ -35,12 +35,17 @@ past_grows old new later = front_length old.past new.past later.past
 pub same_past : (old new : Told) (s : ℕ) → IsLater old new → s < length old.past → slice_get new.past s ≡ slice_get old.past s
 same_past old new s later h = sym (slice_get-take new.past (length old.past) s h) ∙ ap (λ (xs : List Change). slice_get xs s) later.past
 
+-- the image before a change, or the one now where there is none
+abbrev before_or : List ℕ → Option Change → List ℕ
+before_or image None = image
+before_or image (Some change) = change.before
+
 -- the image after all changes is the image now
 pub image_at-now : (told : Told) (s : ℕ) → length told.past ≤ s → image_at told s ≡ told.image
 unfolding image_at
-image_at-now told s h = ap (λ (o : Option Change). before_or o told.image) (slice_get_past told.past s h)
+image_at-now told s h = ap (before_or told.image) (slice_get_past told.past s h)
 
-within_before : (o : Option Change) (one other : List ℕ) (change : Change) → o ≡ Some change → before_or o one ≡ before_or o other
+within_before : (o : Option Change) (one other : List ℕ) (change : Change) → o ≡ Some change → before_or one o ≡ before_or other o
 within_before (Some c) one other change e = refl
 within_before None one other change e = absurd (none-some change e)
 
@@ -50,7 +55,7 @@ unfolding image_at
 image_at-later old new s later h = elim (cases_lt s (length old.past)) [
   | inl before ↦
       let here = slice_get-within_some old.past s before in
-      ap (λ (o : Option Change). before_or o new.image) (same_past old new s later before)
+      ap (before_or new.image) (same_past old new s later before)
       ∙ within_before (slice_get old.past s) new.image old.image here.0 here.1
   | inr last ↦
       let e : s ≡ length old.past = omega arith in
@@ -71,8 +76,8 @@ pub IsLater-changed : (place size : ℕ) (old new : Told) → Changed place size
 unfolding image_at
 IsLater-changed place size old new changed = record {
   past = ap (take (length old.past)) changed.past ∙ take_at old.past _ (length old.past) refl;
-  image = ap (λ (xs : List Change). before_or (slice_get xs (length old.past)) new.image) changed.past
-      ∙ ap (λ (o : Option Change). before_or o new.image) (slice_get-push old.past (record { before = old.image; at = place; len = size }));
+  image = ap (λ (xs : List Change). before_or new.image (slice_get xs (length old.past))) changed.past
+      ∙ ap (before_or new.image) (slice_get-push old.past (record { before = old.image; at = place; len = size }));
 }
 
 -- some changes, and then some more
@@ -91,14 +96,14 @@ CrashImage-earlier mid new s image later before crash = elim crash [
       let grown = past_grows mid new later in
       let e : s ≡ length new.past = last.0 in
       absurd (omega arith)
-  | inr torn ↦ inr (record { change = torn.change; under_way = sym (same_past mid new s later before) ∙ torn.under_way; torn = torn.torn })
+  | inr torn ↦ inr (torn.0, sym (same_past mid new s later before) ∙ torn.1, torn.2)
 ]
 
 -- with no change under way, power lost leaves the image
 pub CrashImage-now : (told : Told) (s : ℕ) (image : List ℕ) → length told.past ≤ s → CrashImage told s image → image ≡ told.image
 CrashImage-now told s image h crash = elim crash [
   | inl last ↦ last.1
-  | inr torn ↦ absurd (none-some torn.change (sym (slice_get_past told.past s h) ∙ torn.under_way))
+  | inr torn ↦ absurd (none-some torn.0 (sym (slice_get_past told.past s h) ∙ torn.1))
 ]
 
 -- no call
@@ -122,13 +127,13 @@ Leaves-changed place size old new P changed all = record {
       | inr torn ↦
           let last : ℕ = length old.past in
           let long : length new.past ≡ length old.past + 1 = ap length changed.past ∙ length_push old.past (record { before = old.image; at = place; len = size }) in
-          let below = slice_get_within new.past s torn.change torn.under_way in
+          let below = slice_get_within new.past s torn.0 torn.1 in
           let e : s ≡ length old.past = omega arith in
-          let here : Some (record { before = old.image; at = place; len = size }) ≡ Some torn.change =
+          let here : Some (record { before = old.image; at = place; len = size }) ≡ Some torn.0 =
           sym (slice_get-push old.past (record { before = old.image; at = place; len = size }))
           ∙ ap (λ (xs : List Change). slice_get xs (length old.past)) (sym changed.past)
-          ∙ ap (slice_get new.past) (sym e) ∙ torn.under_way in
-          all image (subst (λ (c : Change). SameOutside c.at c.len c.before image) (sym (same_Some _ _ here)) torn.torn)
+          ∙ ap (slice_get new.past) (sym e) ∙ torn.1 in
+          all image (subst (λ (c : Change). SameOutside c.at c.len c.before image) (sym (same_Some _ _ here)) torn.2)
     ]
 
 -- a call that changes at most one range

@@ -1,7 +1,7 @@
 -- What the commands of the programs have in common.
 use Rattle.std.specs.Prelude.{◌≡◌, true, List, map, Some, String, string_bytes}
 use Rattle.std.specs.declared.alloc.Global.{Global}
-use Rattle.clap.specs.Words.{App, Rule, Text, new_app, new_rule, with_rule}
+use Rattle.clap.specs.Words.{App, Text, new_app, new_rule, with_rule}
 use Rattle.clap.specs.Simple.{on_top}
 use Rattle.clap_words.specs.declared.error.WordsError.{WordsError}
 use Rattle.clap_words.specs.declared.error.WordsError.TheVariants.{BadWords}
@@ -17,11 +17,8 @@ bare name =
     }) (new_app name)
 
 -- an option is read back by its long name, and has one value, a text
-abbrev pub option_rule : Text → Rule
-option_rule name = record (new_rule name) { long = Some name }
-
 abbrev pub with_option : App → Text → App
-with_option app name = with_rule app (option_rule name)
+with_option app name = with_rule app (record (new_rule name) { long = Some name })
 
 abbrev pub texts_of : List (String Global) → List Text
 texts_of words = map string_bytes words

@@ -1,7 +1,7 @@
 // Commands and their options.
-ghost use Rattle.std.specs.Prelude.{◌≡◌, false};
-ghost use Rattle.clap.specs.Words.{app_of, rule_of};
-ghost use Rattle.clap_words.specs.Commands.{bare, option_rule};
+ghost use Rattle.std.specs.Prelude.{◌≡◌, Some, false};
+ghost use Rattle.clap.specs.Words.{app_of, new_rule, rule_of};
+ghost use Rattle.clap_words.specs.Commands.{bare};
 
 use clap::{Arg, Command};
 use std::alloc::Global;
@@ -19,7 +19,7 @@ pub fn bare<'a>(alloc: Global, name: &'a str) -> Command<'a>
 
 /// An option of this name, which has one value, a text.
 pub fn option<'a>(alloc: Global, name: &'a str) -> Arg<'a>
-    ensures rule { rule_of result ≡ option_rule name.entry.now }
+    ensures rule { rule_of result ≡ record (new_rule name.entry.now) { long = Some name.entry.now } }
     ensures local { result.global ≡ false }
 {
     Arg::new(alloc, name).long(name)

@@ -1,12 +1,13 @@
 -- What it means that a record's checks pass, and that they see the record's own bytes alone.
-use Rattle.std.proofs.Common.{◌≡◌, ℕ, ◌-◌, ◌≤◌, ◌^◌, List, length, Option, Some, None, Ok, Err, cond, refl, ap, ◌∙◌}
+use Rattle.std.proofs.Common.{◌≡◌, ℕ, ◌-◌, ◌≤◌, ◌^◌, List, length, Option, Some, None, Result, Ok, Err, cond, if◌then◌else◌, refl, ap, ◌∙◌}
 use Rattle.std.proofs.lemmas.Bool.{eqb-true, ltb-false, eq-eqb, le-ltb, cond-true, cond-false}
 use Rattle.std.specs.Prelude.{◌==◌, nat_lt}
 use Rattle.base_model.specs.Bytes.{number_at}
 use Rattle.apei_bytes.proofs.Tests.{ok_if, ok_unless}
-use Rattle.cper_frame.specs.declared.error.FrameError.TheVariants.{Need, Start, End, Length, Limit}
+use Rattle.cper_frame.specs.declared.error.FrameError.{FrameError}
+use Rattle.cper_frame.specs.declared.error.FrameError.TheVariants.{Need, Start, End, Length, Section, Limit}
 use Rattle.cper_frame.specs.Grammar.{bodies_from}
-use Rattle.cper_frame.specs.Reading.{signature, section_count, record_length, misplaced, length_if_placed, head_verdict, checked}
+use Rattle.cper_frame.specs.Reading.{signature, section_count, record_length, misplaced, checked}
 
 -- all checks of a record of at most limit bytes pass
 pub record Passed (limit : ℕ) (bytes : List ℕ) : Type 0 where
@@ -17,6 +18,23 @@ pub record Passed (limit : ℕ) (bytes : List ℕ) : Type 0 where
   pub within : record_length bytes ≤ limit
   pub there : record_length bytes ≤ length bytes
   pub sections : misplaced bytes ≡ None
+
+-- the length where every section is in its place
+abbrev pub length_if_placed : ℕ → Option ℕ → Result ℕ FrameError
+length_if_placed len None = Ok len
+length_if_placed len (Some index) = Err (Section index)
+
+-- the checks of a header, in their order: the greatest length that is taken, the bytes that are there, and what the header says
+unfoldable pub head_verdict : ℕ → ℕ → ℕ → ℕ → ℕ → ℕ → Option ℕ → Result ℕ FrameError
+head_verdict limit have start end sections len bad =
+    if start == signature
+    then if end == 2 ^ 32 - 1
+    then if nat_lt len (bodies_from sections) then Err (Length len)
+    else if nat_lt limit len then Err (Limit len)
+    else if nat_lt have len then Err (Need (len - have))
+    else length_if_placed len bad
+    else Err End
+    else Err Start
 
 pub Ok-length_if_placed : (n len : ℕ) (bad : Option ℕ) → length_if_placed n bad ≡ Ok len → (bad ≡ None) × (n ≡ len)
 Ok-length_if_placed n len None h = (refl, cc)
@@ -51,7 +69,7 @@ is_judged limit have start end sections n bad len h =
     }
 
 pub passed : (limit : ℕ) (bytes : List ℕ) (len : ℕ) → checked limit bytes ≡ Ok len → Passed limit bytes × (record_length bytes ≡ len)
-unfolding checked
+unfolding checked head_verdict
 passed limit bytes len h =
     let a = ok_unless _ _ _ _ h in
     let j = is_judged limit (length bytes) (number_at bytes 0 4) (number_at bytes 6 4) (section_count bytes) (record_length bytes) (misplaced bytes) len a.1 in
@@ -74,7 +92,7 @@ judges limit have start end sections n bad j =
     ∙ ap (length_if_placed n) j.sections
 
 pub passes : (limit : ℕ) (bytes : List ℕ) → Passed limit bytes → checked limit bytes ≡ Ok (record_length bytes)
-unfolding checked
+unfolding checked head_verdict
 passes limit bytes p =
     cond-false (nat_lt (length bytes) 128) (Err (Need (128 - length bytes))) _ (le-ltb (length bytes) 128 p.header)
     ∙ judges limit (length bytes) (number_at bytes 0 4) (number_at bytes 6 4) (section_count bytes) (record_length bytes) (misplaced bytes)

@@ -4,7 +4,7 @@ use Rattle.std.specs.Prelude.{codes}
 use Rattle.base_model.specs.Bytes.{part, number_at, little, spelled, joined, total}
 use Rattle.base_model.proofs.BytesLemmas.{length-joined}
 use Rattle.cper_frame.specs.declared.heads.RecordHead.{RecordHead}
-use Rattle.cper_frame.specs.Grammar.{SectionValue, header, descriptor, IsRecordHead, IsSectionHead}
+use Rattle.cper_frame.specs.Grammar.{SectionValue, header, descriptor_fields, IsRecordHead, IsSectionHead}
 use Rattle.cper_frame.specs.Reading.{signature, head_at, section_count, record_length, section_head_at}
 use Rattle.apei_bytes.proofs.Parts.{parts, parts_of, number_of}
 
@@ -17,7 +17,10 @@ descriptor_sizes = 4 ∷ 4 ∷ 2 ∷ 1 ∷ 1 ∷ 4 ∷ 16 ∷ 16 ∷ 4 ∷ 20 �
 
 pub header_sized : (head : RecordHead) (n len : ℕ) → IsRecordHead head → map length (header head n len) ≡ header_sizes
 unfolding spelled
-header_sized head n len is = rw (is.back.platform, is.back.partition, is.back.creator, is.back.notification, is.back.persistence, is.back.reserved) refl
+header_sized head n len is = rw (is.platform, is.partition, is.creator, is.notification, is.persistence, is.reserved) refl
+
+abbrev pub descriptor : SectionValue → List (List ℕ)
+descriptor section = descriptor_fields section.head section.offset (length section.body)
 
 pub descriptor_sized : (section : SectionValue) → IsSectionHead section.head → map length (descriptor section) ≡ descriptor_sizes
 unfolding spelled
@@ -46,12 +49,12 @@ pub header_reads : (head : RecordHead) (n len : ℕ) (bytes rest : List ℕ) →
 header_reads head n len bytes rest is few short e =
     let fields : parts header_sizes 0 bytes ≡ header head n len = parts_of (header head n len) header_sizes rest bytes (header_sized head n len is) e in
     let field = λ (k : ℕ). ap (λ (xss : List (List ℕ)). get_or xss k []) fields in
-    let revision = number_of bytes 4 2 head.revision (field 1) is.front.revision in
-    let severity = number_of bytes 12 4 head.severity (field 4) is.front.severity in
-    let validation = number_of bytes 16 4 head.validation (field 5) is.front.validation in
-    let timestamp = number_of bytes 24 8 head.timestamp (field 7) is.back.timestamp in
-    let id = number_of bytes 96 8 head.id (field 12) is.back.id in
-    let flags = number_of bytes 104 4 head.flags (field 13) is.back.flags in
+    let revision = number_of bytes 4 2 head.revision (field 1) is.revision in
+    let severity = number_of bytes 12 4 head.severity (field 4) is.severity in
+    let validation = number_of bytes 16 4 head.validation (field 5) is.validation in
+    let timestamp = number_of bytes 24 8 head.timestamp (field 7) is.timestamp in
+    let id = number_of bytes 96 8 head.id (field 12) is.id in
+    let flags = number_of bytes 104 4 head.flags (field 13) is.flags in
     record {
       start = number_at_codes bytes (field 0);
       end = number_of bytes 6 4 (2 ^ 32 - 1) (field 2) (omega arith);

@@ -5,11 +5,11 @@ use Rattle.std.proofs.lemmas.Bool.{ltb-false, or_parts}
 use Rattle.std.proofs.lemmas.List.Elements.{All-nil, All-cons}
 use Rattle.base_model.specs.Bytes.{part, number_at, spelled, joined, AreBytes}
 use Rattle.base_model.proofs.BytesLemmas.{spelled-number_at, number_at-lt, length-part, part-append, part-append_left, part-whole, AreBytes-part}
-use Rattle.cper_frame.specs.Grammar.{header, descriptor, descriptors, bodies_from, IsRecordHead, IsSectionHead, IsSectionOf, IsRecord}
+use Rattle.cper_frame.specs.Grammar.{header, descriptors, bodies_from, IsRecordHead, IsSectionHead, IsSectionOf, IsRecord}
 use Rattle.cper_frame.specs.Reading.{signature, head_at, section_count, record_length, section_head_at, section_in, descriptor_at, section_at, sections_from, record_of, is_misplaced, misplaced_from, misplaced}
 use Rattle.apei_bytes.proofs.Parts.{parts, joined-parts, number_at-front, part-append-drop}
 use Rattle.cper_frame.proofs.Checks.{Passed}
-use Rattle.cper_frame.proofs.Laws.{header_sizes, descriptor_sizes}
+use Rattle.cper_frame.proofs.Laws.{descriptor, header_sizes, descriptor_sizes}
 
 -- bytes that follow change no number and no test
 is_misplaced-front : (bytes more : List ℕ) (first last index : ℕ) → 128 + 72 * (index + 1) ≤ length bytes → is_misplaced (bytes ++ more) first last index ≡ is_misplaced bytes first last index
@@ -76,22 +76,18 @@ header_part bytes h k start end = ap joined (header_again bytes h k start end) �
 
 pub is_record_head : (bytes : List ℕ) → AreBytes bytes → 128 ≤ length bytes → IsRecordHead (head_at bytes)
 is_record_head bytes h k = record {
-  front = record {
-    revision = number_at-lt bytes 4 2 h (omega arith);
-    severity = number_at-lt bytes 12 4 h (omega arith);
-    validation = number_at-lt bytes 16 4 h (omega arith);
-  };
-  back = record {
-    timestamp = number_at-lt bytes 24 8 h (omega arith);
-    platform = length-part bytes 32 16 (omega arith);
-    partition = length-part bytes 48 16 (omega arith);
-    creator = length-part bytes 64 16 (omega arith);
-    notification = length-part bytes 80 16 (omega arith);
-    id = number_at-lt bytes 96 8 h (omega arith);
-    flags = number_at-lt bytes 104 4 h (omega arith);
-    persistence = length-part bytes 108 8 (omega arith);
-    reserved = length-part bytes 116 12 (omega arith);
-  };
+  revision = number_at-lt bytes 4 2 h (omega arith);
+  severity = number_at-lt bytes 12 4 h (omega arith);
+  validation = number_at-lt bytes 16 4 h (omega arith);
+  timestamp = number_at-lt bytes 24 8 h (omega arith);
+  platform = length-part bytes 32 16 (omega arith);
+  partition = length-part bytes 48 16 (omega arith);
+  creator = length-part bytes 64 16 (omega arith);
+  notification = length-part bytes 80 16 (omega arith);
+  id = number_at-lt bytes 96 8 h (omega arith);
+  flags = number_at-lt bytes 104 4 h (omega arith);
+  persistence = length-part bytes 108 8 (omega arith);
+  reserved = length-part bytes 116 12 (omega arith);
 }
 
 pub is_section_head : (bytes : List ℕ) → AreBytes bytes → length bytes ≡ 72 → IsSectionHead (section_head_at bytes)

@@ -6,9 +6,9 @@ use Rattle.base_model.specs.Bytes.{number_at}
 use Rattle.cper_frame.specs.declared.error.FrameError.{FrameError}
 use Rattle.cper_frame.specs.declared.error.FrameError.TheVariants.{Need, Start, End, Length, Limit}
 use Rattle.cper_frame.specs.Grammar.{bodies_from}
-use Rattle.cper_frame.specs.Reading.{signature, section_count, record_length, misplaced, length_if_placed, head_verdict, checked}
+use Rattle.cper_frame.specs.Reading.{signature, section_count, record_length, misplaced, checked}
 use Rattle.cper_frame.specs.Stream.{is_need}
-use Rattle.cper_frame.proofs.Checks.{passed, header_decides}
+use Rattle.cper_frame.proofs.Checks.{length_if_placed, head_verdict, passed, header_decides}
 use Rattle.apei_bytes.proofs.Parts.{number_at-front}
 use Rattle.cper_frame.proofs.Sound.{misplaced-front}
 
@@ -52,13 +52,13 @@ first_test true e x h k = absurd (cc)
 first_test false e x h k = refl
 
 long_enough : (limit : ℕ) (bytes : List ℕ) → waits (checked limit bytes) ≡ false → 128 ≤ length bytes
-unfolding checked
+unfolding checked head_verdict
 long_enough limit bytes h = ltb-false (length bytes) 128 (first_test (nat_lt (length bytes) 128) (Need (128 - length bytes)) _ refl h)
 
 -- the checks behind the first
 pub checked_long : (limit : ℕ) (bytes : List ℕ) → 128 ≤ length bytes
     → checked limit bytes ≡ head_verdict limit (length bytes) (number_at bytes 0 4) (number_at bytes 6 4) (section_count bytes) (record_length bytes) (misplaced bytes)
-unfolding checked
+unfolding checked head_verdict
 checked_long limit bytes h = cond-false (nat_lt (length bytes) 128) (Err (Need (128 - length bytes))) _ (le-ltb (length bytes) 128 h)
 
 -- those of a longer list, by the numbers of its front
@@ -142,7 +142,7 @@ pub data Missing (limit : ℕ) (bytes : List ℕ) (w : ℕ) : Type 0 where
       → record_length bytes - length bytes ≡ w → Missing limit bytes w
 
 pub missing : (limit : ℕ) (bytes : List ℕ) (w : ℕ) → checked limit bytes ≡ Err (Need w) → Missing limit bytes w
-unfolding checked
+unfolding checked head_verdict
 missing limit bytes w h = elim (cases_Bool (nat_lt (length bytes) 128)) [
   | inl short ↦
       let e : ◌≡◌ {A = Result ℕ FrameError} (Err (Need (128 - length bytes))) (Err (Need w)) = sym (cond-true (nat_lt (length bytes) 128) _ _ short) ∙ h in
@@ -155,7 +155,7 @@ missing limit bytes w h = elim (cases_Bool (nat_lt (length bytes) 128)) [
 ]
 
 needs_header : (limit : ℕ) (bytes : List ℕ) → length bytes < 128 → checked limit bytes ≡ Err (Need (128 - length bytes))
-unfolding checked
+unfolding checked head_verdict
 needs_header limit bytes h = cond-true (nat_lt (length bytes) 128) _ _ (lt-ltb (length bytes) 128 h)
 
 -- something is missing, and there is a place for it

@@ -10,9 +10,9 @@ use Rattle.apei_bytes.proofs.Parts.{part-first, part-second, part-take}
 use Rattle.apei_bytes.proofs.Puts.{wrote_there, wrote_others, joined-append}
 use Rattle.cper_frame.specs.declared.heads.RecordHead.{RecordHead}
 use Rattle.cper_frame.specs.declared.heads.SectionHead.{SectionHead}
-use Rattle.cper_frame.specs.Grammar.{SectionValue, header_back, header, descriptor, descriptor_fields, descriptors, bodies_from, IsRecordHead, IsSectionHead, IsSectionOf}
+use Rattle.cper_frame.specs.Grammar.{SectionValue, header_back, header, descriptor_fields, descriptors, bodies_from, IsRecordHead, IsSectionHead, IsSectionOf}
 use Rattle.cper_frame.specs.Writer.{Given, sections_given, bodies_end, written_record, Writing, IsWritten}
-use Rattle.cper_frame.proofs.Laws.{length-header, length-descriptor}
+use Rattle.cper_frame.proofs.Laws.{descriptor, length-header, length-descriptor}
 
 length-sections_given : (at : ℕ) (given : List Given) → length (sections_given at given) ≡ length given
 length-sections_given at [] = refl

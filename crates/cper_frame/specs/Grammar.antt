@@ -60,24 +60,19 @@ descriptor_fields head offset len =
     ∷ head.fru_text
     ∷ []
 
-abbrev pub descriptor : SectionValue → List (List ℕ)
-descriptor section = descriptor_fields section.head section.offset (length section.body)
-
 -- the descriptors, one after another
 unfoldable pub descriptors : List SectionValue → List ℕ
-descriptors sections = flat_map (λ section. joined (descriptor section)) sections
+descriptors sections = flat_map (λ section. joined (descriptor_fields section.head section.offset (length section.body))) sections
 
 -- where bodies may begin: behind the header and so many descriptors
 abbrev pub bodies_from : ℕ → ℕ
 bodies_from sections = 128 + 72 * sections
 
--- each number of a header fits its field, and each array has its length: those before the record length, and those behind it
-pub record FrontFits (head : RecordHead) : Type 0 where
+-- each number of a header fits its field, and each array has its length
+pub record IsRecordHead (head : RecordHead) : Type 0 where
   pub revision : head.revision < 2 ^ 16
   pub severity : head.severity < 2 ^ 32
   pub validation : head.validation < 2 ^ 32
-
-pub record BackFits (head : RecordHead) : Type 0 where
   pub timestamp : head.timestamp < 2 ^ 64
   pub platform : length head.platform ≡ 16
   pub partition : length head.partition ≡ 16
@@ -87,10 +82,6 @@ pub record BackFits (head : RecordHead) : Type 0 where
   pub flags : head.flags < 2 ^ 32
   pub persistence : length head.persistence ≡ 8
   pub reserved : length head.reserved ≡ 12
-
-pub record IsRecordHead (head : RecordHead) : Type 0 where
-  pub front : FrontFits head
-  pub back : BackFits head
 
 -- the same of a descriptor
 pub record IsSectionHead (head : SectionHead) : Type 0 where

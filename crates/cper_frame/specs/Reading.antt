@@ -79,29 +79,19 @@ misplaced_from bytes first last (suc n) index =
 unfoldable pub misplaced : List ℕ → Option ℕ
 misplaced bytes = misplaced_from bytes (bodies_from (section_count bytes)) (record_length bytes) (section_count bytes) 0
 
--- the length where every section is in its place
-abbrev pub length_if_placed : ℕ → Option ℕ → Result ℕ FrameError
-length_if_placed len None = Ok len
-length_if_placed len (Some index) = Err (Section index)
-
--- the checks of a header, in their order: the greatest length that is taken, the bytes that are there, and what the header says
-unfoldable pub head_verdict : ℕ → ℕ → ℕ → ℕ → ℕ → ℕ → Option ℕ → Result ℕ FrameError
-head_verdict limit have start end sections len bad =
-    if start == signature
-    then if end == 2 ^ 32 - 1
-    then if nat_lt len (bodies_from sections) then Err (Length len)
-    else if nat_lt limit len then Err (Limit len)
-    else if nat_lt have len then Err (Need (len - have))
-    else length_if_placed len bad
-    else Err End
-    else Err Start
-
 -- the length of the record that the bytes begin with, of at most `limit` bytes, or the first check that fails
 unfoldable pub checked : ℕ → List ℕ → Result ℕ FrameError
 checked limit bytes =
-    if nat_lt (length bytes) 128
-    then Err (Need (128 - length bytes))
-    else head_verdict limit (length bytes) (number_at bytes 0 4) (number_at bytes 6 4) (section_count bytes) (record_length bytes) (misplaced bytes)
+    let len = record_length bytes in
+    if nat_lt (length bytes) 128 then Err (Need (128 - length bytes))
+    else if number_at bytes 0 4 == signature
+    then if number_at bytes 6 4 == 2 ^ 32 - 1
+    then if nat_lt len (bodies_from (section_count bytes)) then Err (Length len)
+    else if nat_lt limit len then Err (Limit len)
+    else if nat_lt (length bytes) len then Err (Need (len - length bytes))
+    else elim (misplaced bytes) [ None ↦ Ok len | Some index ↦ Err (Section index) ]
+    else Err End
+    else Err Start
 
 -- the bytes are one record, all of them
 abbrev pub IsWhole : List ℕ → Type 0

@@ -87,7 +87,7 @@ fn first_outside(bytes: &[u8], first: u32, last: u32, sections: u16) -> Option<u
 }
 
 /// The length of the record that the bytes begin with, of at most `limit` bytes.
-#[tactic(auto, using(std::proofs::lemmas::Bool::Decides::nat_tests), unfolding(crate::specs::Reading::checked, crate::specs::Reading::head_verdict, crate::specs::Reading::misplaced))]
+#[tactic(auto, using(std::proofs::lemmas::Bool::Decides::nat_tests), unfolding(crate::specs::Reading::checked, crate::specs::Reading::misplaced))]
 pub(crate) fn checked_length(bytes: &[u8], limit: u32) -> Result<u32, FrameError>
     ensures { result ≡ checked limit bytes.now }
 {

@@ -4,7 +4,7 @@ ghost use Rattle.base_model.specs.Bytes.{joined};
 ghost use Rattle.apei_bytes.specs.Room.{NeedsRoom};
 ghost use Rattle.apei_bytes.specs.Writing.{Wrote};
 ghost use Rattle.cper_frame.specs.declared.heads.RecordHead.{RecordHead as Head};
-ghost use Rattle.cper_frame.specs.Grammar.{header_front, header_back, header, descriptor_fields, FrontFits, BackFits, IsRecordHead, IsSectionHead};
+ghost use Rattle.cper_frame.specs.Grammar.{header_front, header_back, header, descriptor_fields, IsRecordHead, IsSectionHead};
 ghost use Rattle.cper_frame.specs.Writer.{Given, written_record, room_of, used_by, announced_to, given_to, name_of, IsRecordWriter, IsUnchanged, IsWriting, IsWritten};
 
 use crate::heads::{RecordHead, SectionHead};
@@ -18,7 +18,7 @@ use apei_bytes::{
 fn put_front(out: &mut [u8], head: &RecordHead, sections: u16)
     requires { 128 ≤ length out.old }
     ensures wrote { Wrote out.old out.new 0 24 (joined (header_front head.now sections 0)) }
-    ensures fits { FrontFits head.now }
+    ensures fits { (head.now.revision < 2 ^ 16) × (head.now.severity < 2 ^ 32) × (head.now.validation < 2 ^ 32) }
 {
     let revision = write_array(out, 0, b"CPER");
     let end = write_u16(out, revision, head.revision);
@@ -33,7 +33,10 @@ fn put_front(out: &mut [u8], head: &RecordHead, sections: u16)
 fn put_back(out: &mut [u8], head: &RecordHead)
     requires { 128 ≤ length out.old }
     ensures wrote { Wrote out.old out.new 24 128 (joined (header_back head.now)) }
-    ensures fits { BackFits head.now }
+    ensures numbers { (head.now.timestamp < 2 ^ 64) × (head.now.id < 2 ^ 64) × (head.now.flags < 2 ^ 32) }
+    ensures guids { (length head.now.platform ≡ 16) × (length head.now.partition ≡ 16)
+        × (length head.now.creator ≡ 16) × (length head.now.notification ≡ 16) }
+    ensures arrays { (length head.now.persistence ≡ 8) × (length head.now.reserved ≡ 12) }
 {
     let platform = write_u64(out, 24, head.timestamp);
     let partition = write_guid(out, platform, &head.platform);

@@ -69,7 +69,7 @@ module _ (tells : Type 0) (client : ClientState) (budget : ℕ) where
 
   turn_is : (old : MachineState) (bridge : BridgeState) (event : BridgeEvent) (next : BridgeState) (left : ℕ) (new : MachineState) → BridgesMachine tells client budget old bridge event next left new
       → IsOf old bridge (event, next) left new
-  turn_is old bridge event next left new turn = elim turn as (λ bridge event next left new turn. IsOf old bridge (event, next) left new) [
+  turn_is old bridge event next left new turn = elim turn as (λ bridge event after turn. IsOf old bridge (event, after.bridge) after.left after.station) [
     | TurnsReader id bridge event new none reads ↦ read_is old id bridge event new none reads
     | Stores id block left new small writes ↦ inl (record { result = Ok tt; small = small; writes = writes; answer_is = refl })
     | Keeps id block error left new small writes ↦ inl (record { result = Err error; small = small; writes = writes; answer_is = refl })

@@ -110,7 +110,7 @@ module _ (tells : Type 0) (client : ClientState) (budget : ℕ) (old : MachineSt
   pub too_long : (id : ℕ) (block : List ℕ) → bridge ≡ Holds id block → id < 2 ^ 64 - 1 → length block ≤ 4096 → client.range < 200 + length block
       → (event ≡ Kept (TooLong (200 + length block) client.range)) × (new ≡ old)
   too_long id block held small short long =
-      elim turn as (λ bridge event next left new turn. bridge ≡ Holds id block → (event ≡ Kept (TooLong (200 + length block) client.range)) × (new ≡ old)) [
+      elim turn as (λ bridge event after turn. bridge ≡ Holds id block → (event ≡ Kept (TooLong (200 + length block) client.range)) × (after.station ≡ old)) [
         | TurnsReader n bridge event new none reads ↦ λ held. absurd (not_held n id bridge block none held)
         | Stores n other left new less writes ↦ λ held. absurd (cc (write_refused tells client (bridged other n) budget old (Ok tt) left new writes (TooLong (200 + length block) client.range) (refused n other held)).0)
         | Keeps n other error left new less writes ↦ λ held.
@@ -126,7 +126,7 @@ module _ (tells : Type 0) (client : ClientState) (budget : ℕ) (old : MachineSt
           ∙ refused_long block id client.range (omega arith) short long
 
   pub out_is : event ≡ Out → (block : List ℕ) × (bridge ≡ Holds (2 ^ 64 - 1) block) × (next ≡ bridge) × (new ≡ old)
-  out_is = elim turn as (λ bridge event next left new turn. event ≡ Out → (block : List ℕ) × (bridge ≡ Holds (2 ^ 64 - 1) block) × (next ≡ bridge) × (new ≡ old)) [
+  out_is = elim turn as (λ bridge event after turn. event ≡ Out → (block : List ℕ) × (bridge ≡ Holds (2 ^ 64 - 1) block) × (after.bridge ≡ bridge) × (after.station ≡ old)) [
     | TurnsReader n bridge event new none reads ↦ λ is. absurd (cc is)
     | Stores n block left new less writes ↦ λ is. absurd (cc is)
     | Keeps n block error left new less writes ↦ λ is. absurd (cc is)
@@ -134,7 +134,7 @@ module _ (tells : Type 0) (client : ClientState) (budget : ℕ) (old : MachineSt
   ]
 
   pub is_out : (id : ℕ) (block : List ℕ) → bridge ≡ Holds id block → id ≡ 2 ^ 64 - 1 → event ≡ Out
-  is_out id block held is = elim turn as (λ bridge event next left new turn. bridge ≡ Holds id block → event ≡ Out) [
+  is_out id block held is = elim turn as (λ bridge event after turn. bridge ≡ Holds id block → event ≡ Out) [
     | TurnsReader n bridge event new none reads ↦ λ held. absurd (not_held n id bridge block none held)
     | Stores n other left new less writes ↦ λ held. absurd (let same = same_id n id other block held in omega arith)
     | Keeps n other error left new less writes ↦ λ held. absurd (let same = same_id n id other block held in omega arith)
@@ -148,7 +148,7 @@ module _ (tells : Type 0) (client : ClientState) (budget : ℕ) (old : MachineSt
 
     -- the flash failed in this very turn
     pub kept_hardware : event ≡ Kept Hardware → Rose old.device.store.flash.faults new.device.store.flash.faults
-    kept_hardware = elim turn as (λ bridge event next left new turn. event ≡ Kept Hardware → Rose old.device.store.flash.faults new.device.store.flash.faults) [
+    kept_hardware = elim turn as (λ bridge event after turn. event ≡ Kept Hardware → Rose old.device.store.flash.faults after.station.device.store.flash.faults) [
       | TurnsReader id bridge event new none reads ↦ λ says. absurd (cc says)
       | Stores id block left new small writes ↦ λ says. absurd (cc says)
       | Keeps id block error left new small writes ↦ λ says.
@@ -159,7 +159,7 @@ module _ (tells : Type 0) (client : ClientState) (budget : ℕ) (old : MachineSt
 
     -- with the steps that are enough it is never for want of steps or of time
     pub kept_through : IsMachine old → enough_steps client.timings ≤ budget → (error : ClientError) → event ≡ Kept error → GoesThrough {T = Unit {0}} (Err error)
-    kept_through machine enough = elim turn as (λ bridge event next left new turn. (error : ClientError) → event ≡ Kept error → GoesThrough {T = Unit {0}} (Err error)) [
+    kept_through machine enough = elim turn as (λ bridge event after turn. (error : ClientError) → event ≡ Kept error → GoesThrough {T = Unit {0}} (Err error)) [
       | TurnsReader id bridge event new none reads ↦ λ error says. absurd (cc says)
       | Stores id block left new small writes ↦ λ error says. absurd (cc says)
       | Keeps id block one left new small writes ↦ λ error says.
@@ -173,7 +173,7 @@ module _ (tells : Type 0) (client : ClientState) (budget : ℕ) (old : MachineSt
     pub never_too_long : tells → IsMachine old → (id : ℕ) (block : List ℕ) → bridge ≡ Holds id block → length block ≤ 4096 → 200 + length block ≤ client.range
         → (len range : ℕ) → event ≡ Kept (TooLong len range) → ⊥
     never_too_long told machine id block held short enough len range =
-        elim turn as (λ bridge event next left new turn. bridge ≡ Holds id block → event ≡ Kept (TooLong len range) → ⊥) [
+        elim turn as (λ bridge event after turn. bridge ≡ Holds id block → event ≡ Kept (TooLong len range) → ⊥) [
           | TurnsReader n bridge event new none reads ↦ λ held says. absurd (cc says)
           | Stores n other left new less writes ↦ λ held says. absurd (cc says)
           | Keeps n other error left new less writes ↦ λ held says.

@@ -3,6 +3,7 @@ use Rattle.std.proofs.Common.{◌≡◌, ◌⊎◌, inl, inr, ℕ, List, Option,
 use Rattle.std.specs.Prelude.{is_none, if◌then◌else◌}
 use Rattle.base_model.specs.Flash.{Told, Leaves}
 use Rattle.base_model.specs.Layout.{Layout}
+use Rattle.base_model.specs.Bytes.{put_at}
 use Rattle.base_model.proofs.CrashLemmas.{Leaves-none, Leaves-exit}
 use Rattle.record_model.specs.Records.{Stored as Records}
 use Rattle.record_model.specs.RecordMap.{Command, Write, after}
@@ -15,10 +16,10 @@ use Rattle.erst_client.specs.Sequences.{write_requests}
 use Rattle.erst_machine.specs.MachineState.{MachineState, IsMachine, reach_in, records_of, told_of}
 use Rattle.erst_machine.specs.Allowed.{Allows}
 use Rattle.erst_machine.specs.Shown.{shown_by}
-use Rattle.erst_commands.specs.OwnPrograms.{OwnProgramsRun}
+use Rattle.erst_commands.specs.OwnPrograms.{with_range, OwnProgramsRun}
 use Rattle.erst_commands.specs.Attached.{own_client}
 use Rattle.erst_commands.specs.Changes.{ChangeCommand, IsTaken, IsRefused, IsFailed, IsStopped}
-use Rattle.erst_commands.specs.Writes.{WriteAnswered, IsNoRecord, IsWritten, marked, id_of, with_record}
+use Rattle.erst_commands.specs.Writes.{WriteAnswered, IsNoRecord, IsWritten, marked, id_of}
 use Rattle.erst_commands.proofs.WriteLemmas.{written}
 use Rattle.erst_bridge.specs.declared.events.BridgeEvent.{BridgeEvent}
 use Rattle.erst_bridge.specs.BridgedRecord.{bridged}
@@ -63,13 +64,13 @@ module _ (tells : Type 0) (run : OwnProgramsRun tells) (told : tells) (client : 
         | IsNoRecord error refused ↦ Leaves-none (told_of old) _ (inl refl)
         | IsWritten result left last fits made ↦
             subst (λ (made : Records). LeavesEither old made last) (sym (after_write-fits old bytes fits))
-            (command_crash (with_record (marked bytes) old) last (id_of bytes) (Write (id_of bytes) (marked bytes)) write_requests budget result left made)
+            (command_crash (with_range (put_at old.memory.range 0 (marked bytes)) old) last (id_of bytes) (Write (id_of bytes) (marked bytes)) write_requests budget result left made)
       ]
 
   bridge_crash : (old : MachineState) → client ≡ own_client old → IsMachine old → (bridge : BridgeState) (event : BridgeEvent) (next : BridgeState) (left : ℕ) (new : MachineState)
       → BridgesMachine tells client budget old bridge event next left new → LeavesEither old (after_turn bridge old (OfBridge event)) new
   bridge_crash old own machine bridge event next left new turn =
-      elim turn as (λ bridge event next left new turn. LeavesEither old (after_turn bridge old (OfBridge event)) new) [
+      elim turn as (λ bridge event after turn. LeavesEither old (after_turn bridge old (OfBridge event)) after.station) [
         | TurnsReader id bridge event new none reads ↦ same_told old _ new (ap (λ (d : DeviceState). d.store.flash.told) reads.device)
         | Stores id block left new small writes ↦ write_crash old own machine (bridged block id) (Ok tt) left new writes
         | Keeps id block error left new small writes ↦ write_crash old own machine (bridged block id) (Err error) left new writes

@@ -7,6 +7,7 @@ use Rattle.std.specs.Cmp.{nat_cmp_total}
 use Rattle.std.proofs.lemmas.Bool.{eq-eqb, ne_eqb}
 use Rattle.std.proofs.lemmas.Bool.Decides.{nat_tests}
 use Rattle.base_model.specs.Layout.{Layout}
+use Rattle.base_model.specs.Bytes.{put_at}
 use Rattle.record_model.specs.Records.{Stored as Records}
 use Rattle.record_model.specs.RecordMap.{Write, refusal_of, made_by, after, next_generation}
 use Rattle.record_model.proofs.MapLemmas.{after-done}
@@ -15,7 +16,8 @@ use Rattle.erst_client.specs.Commands.{write_refusal}
 use Rattle.erst_client.specs.Sequences.{write_requests}
 use Rattle.erst_machine.specs.MachineState.{MachineState, reach_in, records_of}
 use Rattle.erst_commands.specs.Changes.{ChangeCommand, IsTaken, IsRefused, IsFailed, IsStopped}
-use Rattle.erst_commands.specs.Writes.{WriteAnswered, IsNoRecord, IsWritten, marked, id_of, with_record}
+use Rattle.erst_commands.specs.Writes.{WriteAnswered, IsNoRecord, IsWritten, marked, id_of}
+use Rattle.erst_commands.specs.OwnPrograms.{with_range}
 use Rattle.erst_bridge.specs.BridgedRecord.{bridged}
 use Rattle.erst_bridge.proofs.RecordLemmas.{name}
 use Rattle.erst_bridge.specs.Shown.{stored_record, after_write, IsStoredAs}
@@ -55,7 +57,7 @@ unfolding made_by
 taken_write P id bytes layout before now taken is there = subst P (sym (is ∙ after-done layout (Write id bytes) before taken)) there
 
 command_put : (P : Records → Type 0) (bytes : List ℕ) (old : MachineState) (result : Result (Unit {0}) ClientError) (left : ℕ) (last : MachineState) (budget : ℕ)
-    → ChangeCommand (with_record (marked bytes) old) last (id_of bytes) (Write (id_of bytes) (marked bytes)) write_requests budget result left → result ≡ Ok tt
+    → ChangeCommand (with_range (put_at old.memory.range 0 (marked bytes)) old) last (id_of bytes) (Write (id_of bytes) (marked bytes)) write_requests budget result left → result ≡ Ok tt
     → P (insert (records_of old) (id_of bytes) (marked bytes, next_generation (get (records_of old) (id_of bytes)))) → P (records_of last)
 command_put P bytes old result left last budget made =
     elim made as (λ result left made. result ≡ Ok tt → P (insert (records_of old) (id_of bytes) (marked bytes, next_generation (get (records_of old) (id_of bytes)))) → P (records_of last)) [

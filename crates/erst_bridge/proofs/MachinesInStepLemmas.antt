@@ -34,7 +34,7 @@ module _ (tells : Type 0) (client : ClientState) (budget : ℕ) where
   bridge_in_step : (old : MachineState) (bridge : BridgeState) (event : BridgeEvent) (next : BridgeState) (left : ℕ) (new : MachineState) (m : Machine)
       → BridgesMachine tells client budget old bridge event next left new → StandsInStep bridge old m → InOrderThen m bridge (OfBridge event) next new
   bridge_in_step old bridge event next left new m turn paired =
-      elim turn as (λ bridge event next left new turn. StandsInStep bridge old m → InOrderThen m bridge (OfBridge event) next new) [
+      elim turn as (λ bridge event after turn. StandsInStep bridge old m → InOrderThen m bridge (OfBridge event) after.bridge after.station) [
         | TurnsReader id bridge event new none reads ↦ λ paired.
             let t = reads.turned m paired.stands in (
               subst (λ (e : Event). IsInOrder bridge (Line e)) (sym t.event_is) (order old.handover.map.len id bridge m paired.stands.state paired.step none),

@@ -93,7 +93,7 @@ module _ (tells : Type 0) (run : OwnProgramsRun tells) (told : tells) (client : 
       → Agrees bridge contents (records_of old) → Agrees bridge contents (after_turn bridge old turn)
   turn_agrees bridge old (OfFirmware event) next new contents is agrees = agrees
   turn_agrees bridge old (OfBridge event) next new contents is agrees =
-      elim is.1 as (λ bridge event next left new turn. Agrees bridge contents (records_of old) → Agrees bridge contents (after_turn bridge old (OfBridge event))) [
+      elim is.1 as (λ bridge event after turn. Agrees bridge contents (records_of old) → Agrees bridge contents (after_turn bridge old (OfBridge event))) [
         | TurnsReader n bridge event new none reads ↦ λ agrees. agrees
         | Stores n block left new small writes ↦ λ agrees. either_agrees n block contents (records_of old) (after_write old (bridged block n)) agrees (write_either old block n (omega arith))
         | Keeps n block error left new small writes ↦ λ agrees. either_agrees n block contents (records_of old) (after_write old (bridged block n)) agrees (write_either old block n (omega arith))
@@ -113,7 +113,7 @@ module _ (tells : Type 0) (run : OwnProgramsRun tells) (told : tells) (client : 
       → BridgesMachine tells client budget old bridge event next left new → StandsInStep bridge old m → Agrees bridge contents (records_of old)
       → LeadsTo bridge m contents next (handover_after (OfBridge event) m) new
   bridge_leads old own machine bridge event next left new m contents turn paired agrees =
-      elim turn as (λ bridge event next left new turn. StandsInStep bridge old m → Agrees bridge contents (records_of old) → LeadsTo bridge m contents next (handover_after (OfBridge event) m) new) [
+      elim turn as (λ bridge event after turn. StandsInStep bridge old m → Agrees bridge contents (records_of old) → LeadsTo bridge m contents after.bridge (handover_after (OfBridge event) m) after.station) [
         | TurnsReader id bridge event new none reads ↦ λ paired agrees.
             let t = reads.turned m paired.stands in
             let block = last_of new in

@@ -25,18 +25,18 @@ severity_fits block = by_test (nat_lt (number_at block 16 4) 4) refl
 
 head_fits : (block : List ℕ) (id : ℕ) → id < 2 ^ 64 → IsRecordHead (bridged_head block id)
 head_fits block id small = record {
-  front = record { revision = lit< tt; severity = severity_fits block; validation = lit< tt };
-  back = record {
-    timestamp = lit< tt;
-    platform = refl;
-    partition = refl;
-    creator = refl;
-    notification = refl;
-    id = small;
-    flags = lit< tt;
-    persistence = refl;
-    reserved = refl;
-  };
+  revision = lit< tt;
+  severity = severity_fits block;
+  validation = lit< tt;
+  timestamp = lit< tt;
+  platform = refl;
+  partition = refl;
+  creator = refl;
+  notification = refl;
+  id = small;
+  flags = lit< tt;
+  persistence = refl;
+  reserved = refl;
 }
 
 section_fits : (block : List ℕ) → IsSectionHead (bridged_section block)

@@ -52,7 +52,7 @@ module _ (tells : Type 0) (client : ClientState) (budget : ℕ) where
   pub turn_beyond : (bridge : BridgeState) (old : MachineState) (turn : Turn) (next : BridgeState) (new : MachineState) (id : ℕ) → IsTurn tells client budget bridge old turn next new
       → IsBeyond id bridge → IsBeyond id next
   turn_beyond bridge old (OfFirmware event) next new id is beyond = subst (IsBeyond id) (sym is.0) beyond
-  turn_beyond bridge old (OfBridge event) next new id is beyond = elim is.1 as (λ bridge event next left new turn. IsBeyond id bridge → IsBeyond id next) [
+  turn_beyond bridge old (OfBridge event) next new id is beyond = elim is.1 as (λ bridge event after turn. IsBeyond id bridge → IsBeyond id after.bridge) [
     | TurnsReader n bridge event new none reads ↦ λ beyond. let above = next_beyond id n bridge none beyond in reader_cases (IsBeyond id) event n (last_of new) bridge above above beyond
     | Stores n block left new small writes ↦ λ beyond. let above : id < n = beyond in omega arith
     | Keeps n block error left new small writes ↦ λ beyond. beyond
@@ -63,7 +63,7 @@ module _ (tells : Type 0) (client : ClientState) (budget : ℕ) where
       → IsTurn tells client budget bridge old turn next new → IsBeyond id bridge → IsStoredAs id bytes (records_of old) → IsStoredAs id bytes (after_turn bridge old turn)
   turn_stays bridge old (OfFirmware event) next new id bytes is beyond there = there
   turn_stays bridge old (OfBridge event) next new id bytes is beyond there =
-      elim is.1 as (λ bridge event next left new turn. IsBeyond id bridge → IsStoredAs id bytes (after_turn bridge old (OfBridge event))) [
+      elim is.1 as (λ bridge event after turn. IsBeyond id bridge → IsStoredAs id bytes (after_turn bridge old (OfBridge event))) [
         | TurnsReader n bridge event new none reads ↦ λ beyond. there
         | Stores n block left new small writes ↦ λ beyond. other_stays old block n id bytes (omega arith) (λ e. absurd (omega (arith, e, beyond))) there
         | Keeps n block error left new small writes ↦ λ beyond. other_stays old block n id bytes (omega arith) (λ e. absurd (omega (arith, e, beyond))) there
@@ -120,7 +120,7 @@ module _ (tells : Type 0) (client : ClientState) (budget : ℕ) where
     -- a turn that was answered `Stored` stored the record of the block that was held
     pub stored_turn : (old : MachineState) → client ≡ own_client old → IsMachine old → (bridge : BridgeState) (event : BridgeEvent) (next : BridgeState) (left : ℕ) (new : MachineState)
         → BridgesMachine tells client budget old bridge event next left new → (id : ℕ) → event ≡ Stored id → StoresHeld id bridge next new
-    stored_turn old own machine bridge event next left new turn = elim turn as (λ bridge event next left new turn. (id : ℕ) → event ≡ Stored id → StoresHeld id bridge next new) [
+    stored_turn old own machine bridge event next left new turn = elim turn as (λ bridge event after turn. (id : ℕ) → event ≡ Stored id → StoresHeld id bridge after.bridge after.station) [
       | TurnsReader n bridge event new none reads ↦ λ id is. absurd (cc is)
       | Stores n block left new small writes ↦ λ id is. subst (λ (k : ℕ). StoresHeld k (Holds n block) (Releases (n + 1)) new) (same_name n id is)
           (record {

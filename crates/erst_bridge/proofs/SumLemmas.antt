@@ -51,7 +51,7 @@ module _ (tells : Type 0) (client : ClientState) (budget : ℕ) where
   bridge_balance : (old : MachineState) (bridge : BridgeState) (event : BridgeEvent) (next : BridgeState) (left : ℕ) (new : MachineState)
       → BridgesMachine tells client budget old bridge event next left new → IsInOrder bridge event → BalanceOf (OfBridge event) bridge next
   bridge_balance old bridge event next left new turn =
-      elim turn as (λ bridge event next left new turn. IsInOrder bridge event → BalanceOf (OfBridge event) bridge next) [
+      elim turn as (λ bridge event after turn. IsInOrder bridge event → BalanceOf (OfBridge event) bridge after.bridge) [
         | TurnsReader id bridge event new none reads ↦ λ may. reader_balance id bridge event (last_of new) none may
         | Stores id block left new small writes ↦ λ may. (refl, refl)
         | Keeps id block error left new small writes ↦ λ may. (refl, refl)

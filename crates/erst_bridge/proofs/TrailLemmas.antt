@@ -37,7 +37,7 @@ module _ (tells : Type 0) where
   module _ (client : ClientState) (budget : ℕ) where
     bridge_trail : (old : MachineState) (bridge : BridgeState) (event : BridgeEvent) (next : BridgeState) (left : ℕ) (new : MachineState)
         → BridgesMachine tells client budget old bridge event next left new → HasTrail tells old new
-    bridge_trail old bridge event next left new turn = elim turn as (λ bridge event next left new turn. HasTrail tells old new) [
+    bridge_trail old bridge event next left new turn = elim turn as (λ bridge event after turn. HasTrail tells old after.station) [
       | TurnsReader id bridge event new none reads ↦ one_move old (Turned Reader event) new reads
       | Stores id block left new small writes ↦ reached_happens tells old new (writes_on (Allows tells) client (bridged block id) budget old (Ok tt) left new writes)
       | Keeps id block error left new small writes ↦ reached_happens tells old new (writes_on (Allows tells) client (bridged block id) budget old (Err error) left new writes)

@@ -6,8 +6,8 @@ use Rattle.ghes_ack.specs.declared.events.Side.TheVariants.{Firmware}
 use Rattle.erst_client.specs.Commands.{ClientState}
 use Rattle.erst_machine.specs.MachineState.{MachineState}
 use Rattle.erst_machine.specs.Shown.{changes_of}
-use Rattle.erst_bridge.specs.Bridges.{BridgeState}
-use Rattle.erst_bridge.specs.Turns.{Turn, Step, IsTurn, AreTurns}
+use Rattle.erst_bridge.specs.Bridges.{BridgeState, asker_of}
+use Rattle.erst_bridge.specs.Turns.{Turn, Step, bridged_machine, IsTurn, AreTurns}
 use Rattle.erst_bridge.specs.declared.made.SideTurn.{SideTurn}
 use Rattle.erst_bridge.specs.declared.made.SideTurn.TheVariants.{Firmware as ByFirmware, Bridge as ByBridge}
 use Rattle.erst_bridge.specs.declared.made.MadeTurn.{MadeTurn}
@@ -37,14 +37,14 @@ module _ (tells : Type 0) (client : ClientState) (budget : ℕ) where
       (subst (λ (b : BridgeState). IsTurn tells client budget b first turn next new) are.0 (subst (λ (m : MachineState). IsTurn tells client budget mid m turn next new) are.1 is), (refl, refl))
   turns_more bridge first (step ∷ steps) mid machine turn next new are is = (are.0, turns_more step.bridge step.machine steps mid machine turn next new are.1 is)
 
-  pub none_made : (bridge : BridgeState) (first : MachineState) → MakesTurns tells client budget bridge first [] [] bridge first
+  pub none_made : (bridge : BridgeState) (first : MachineState) → MakesTurns tells (asker_of client budget) (bridged_machine bridge first) [] [] (bridged_machine bridge first)
   none_made bridge first = record { turns = []; are_turns = (refl, refl); sides_are = refl; made_is = refl; counted = λ _. tt }
 
   pub one_more : (bridge : BridgeState) (first : MachineState) (sides : List Side) (i : ℕ) (made made_now : List MadeTurn) (mid : BridgeState) (machine : MachineState) (turn : SideTurn) (step : ℕ) (next : BridgeState) (new : MachineState)
-      → i < length sides → MakesTurns tells client budget bridge first (take i sides) made mid machine
+      → i < length sides → MakesTurns tells (asker_of client budget) (bridged_machine bridge first) (take i sides) made (bridged_machine mid machine)
       → IsTurn tells client budget mid machine (turn_of turn) next new → side_in (turn_of turn) ≡ get_or sides i Firmware
       → (tells → changes_of new ≡ step) → step ≡ new.device.store.flash.steps → made_now ≡ made ++ (record { turn = turn; step = step }) ∷ []
-      → MakesTurns tells client budget bridge first (take (i + 1) sides) made_now next new
+      → MakesTurns tells (asker_of client budget) (bridged_machine bridge first) (take (i + 1) sides) made_now (bridged_machine next new)
   one_more bridge first sides i made made_now mid machine turn step next new within so is side counted step_is pushed =
       let last : Step = record { turn = turn_of turn; bridge = next; machine = new } in
       record {

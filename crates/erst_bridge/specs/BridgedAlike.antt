@@ -5,8 +5,8 @@ use Rattle.erst_client.specs.Commands.{ClientState}
 use Rattle.erst_machine.specs.MachineState.{MachineState}
 use Rattle.erst_commands.specs.Equivalence.{EquivalentMachines, FailedNothing}
 use Rattle.erst_bridge.specs.declared.events.BridgeEvent.{BridgeEvent}
-use Rattle.erst_bridge.specs.Bridges.{BridgeState}
-use Rattle.erst_bridge.specs.Turns.{BridgesMachine, Turn, Step, IsTurn, AreTurns}
+use Rattle.erst_bridge.specs.Bridges.{BridgeState, asker_of}
+use Rattle.erst_bridge.specs.Turns.{BridgesMachine, Turn, Step, bridged_machine, IsTurn, AreTurns}
 use Rattle.erst_bridge.specs.declared.made.MadeTurn.{MadeTurn}
 use Rattle.erst_bridge.specs.Made.{side_in, sides_in, MakesTurns}
 use Rattle.erst_bridge.specs.EquivalentSteps.{EquivalentSteps}
@@ -38,6 +38,6 @@ abbrev pub EachRunIsToldAlike : (tells : Type 0) → ClientState → BridgeState
 EachRunIsToldAlike tells client bridge budget =
     (one other : MachineState) (sides : List Side) (made also : List MadeTurn) (next also_next : BridgeState) (one_after other_after : MachineState)
     → EquivalentMachines one other
-    → MakesTurns tells client budget bridge one sides made next one_after → FailedNothing one one_after
-    → MakesTurns tells client budget bridge other sides also also_next other_after → FailedNothing other other_after
+    → MakesTurns tells (asker_of client budget) (bridged_machine bridge one) sides made (bridged_machine next one_after) → FailedNothing one one_after
+    → MakesTurns tells (asker_of client budget) (bridged_machine bridge other) sides also (bridged_machine also_next other_after) → FailedNothing other other_after
     → (made ≡ also) × (next ≡ also_next) × EquivalentMachines one_after other_after

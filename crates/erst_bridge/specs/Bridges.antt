@@ -59,14 +59,42 @@ abbrev pub after_offer : BridgeEvent → ℕ → List ℕ → BridgeState
 after_offer (Stored name) id block = Releases (id + 1)
 after_offer event id block = Holds id block
 
--- A turn of a bridge: what it was, its event, and the bridge, the steps that are left and the station behind it. `reads` is a turn of the
--- station's reader, and `last` the block taken last. While a block is held the reader makes no turn; the identifier 2^64 - 1 is none
-pub data Bridges {S W : Type 0} (state : S → W) (allows : W → Call → W → Type 0) (reads : S → Event → S → Type 0) (last : S → List ℕ) (client : ClientState) (budget : ℕ) (old : S) :
-    BridgeState → BridgeEvent → BridgeState → ℕ → S → Type 0 where
-  TurnsReader : (id : ℕ) (bridge : BridgeState) (event : Event) (new : S) → HoldsNone id bridge → reads old event new
-      → Bridges state allows reads last client budget old bridge (Line event) (after_reader event id (last new) bridge) budget new
-  Stores : (id : ℕ) (block : List ℕ) (left : ℕ) (new : S) → id < 2 ^ 64 - 1 → Writes allows client (bridged block id) budget (state old) (Ok tt) left (state new)
-      → Bridges state allows reads last client budget old (Holds id block) (Stored id) (Releases (id + 1)) left new
-  Keeps : (id : ℕ) (block : List ℕ) (error : ClientError) (left : ℕ) (new : S) → id < 2 ^ 64 - 1 → Writes allows client (bridged block id) budget (state old) (Err error) left (state new)
-      → Bridges state allows reads last client budget old (Holds id block) (Kept error) (Holds id block) left new
-  RunsOut : (id : ℕ) (block : List ℕ) → id ≡ 2 ^ 64 - 1 → Bridges state allows reads last client budget old (Holds id block) Out (Holds id block) budget old
+-- what a station is: the space under it, what a call does to the space, a turn of its reader, and the block that the reader took last
+pub record StationRules (S W : Type 0) : Type 1 where
+  pub state : S → W
+  pub allows : W → Call → W → Type 0
+  pub reads : S → Event → S → Type 0
+  pub last : S → List ℕ
+
+abbrev pub station_rules : {S W : Type 0} → (state : S → W) → (allows : W → Call → W → Type 0) → (reads : S → Event → S → Type 0) → (last : S → List ℕ) → StationRules S W
+station_rules state allows reads last = record { state = state; allows = allows; reads = reads; last = last }
+
+-- who asks for a command: a client, with so many steps
+pub record Asker : Type 0 where
+  pub client : ClientState
+  pub steps : ℕ
+
+abbrev pub asker_of : ClientState → ℕ → Asker
+asker_of client steps = record { client = client; steps = steps }
+
+-- what a turn leaves: the bridge, the steps that are left, and the station
+pub record Outcome (S : Type 0) : Type 0 where
+  pub bridge : BridgeState
+  pub left : ℕ
+  pub station : S
+
+abbrev pub outcome_of : {S : Type 0} → BridgeState → ℕ → S → Outcome S
+outcome_of bridge left station = record { bridge = bridge; left = left; station = station }
+
+-- A turn of a bridge: what it was, its event, and what it leaves. While a block is held the reader makes no turn; the identifier 2^64 - 1 is
+-- none
+pub data Bridges {S W : Type 0} (rules : StationRules S W) (asker : Asker) (old : S) : BridgeState → BridgeEvent → Outcome S → Type 0 where
+  TurnsReader : (id : ℕ) (bridge : BridgeState) (event : Event) (new : S) → HoldsNone id bridge → rules.reads old event new
+      → Bridges rules asker old bridge (Line event) (outcome_of (after_reader event id (rules.last new) bridge) asker.steps new)
+  Stores : (id : ℕ) (block : List ℕ) (left : ℕ) (new : S) → id < 2 ^ 64 - 1
+      → Writes rules.allows asker.client (bridged block id) asker.steps (rules.state old) (Ok tt) left (rules.state new)
+      → Bridges rules asker old (Holds id block) (Stored id) (outcome_of (Releases (id + 1)) left new)
+  Keeps : (id : ℕ) (block : List ℕ) (error : ClientError) (left : ℕ) (new : S) → id < 2 ^ 64 - 1
+      → Writes rules.allows asker.client (bridged block id) asker.steps (rules.state old) (Err error) left (rules.state new)
+      → Bridges rules asker old (Holds id block) (Kept error) (outcome_of (Holds id block) left new)
+  RunsOut : (id : ℕ) (block : List ℕ) → id ≡ 2 ^ 64 - 1 → Bridges rules asker old (Holds id block) Out (outcome_of (Holds id block) asker.steps old)

@@ -1,12 +1,10 @@
 -- What turns of both sides did, with the flash changes behind each.
-use Rattle.std.specs.Prelude.{◌≡◌, ℕ, List, [], ◌∷◌}
+use Rattle.std.specs.Prelude.{◌≡◌, List, [], ◌∷◌}
 use Rattle.ghes_ack.specs.declared.events.Side.{Side}
 use Rattle.ghes_ack.specs.declared.events.Side.TheVariants.{Firmware, Reader}
-use Rattle.erst_client.specs.Commands.{ClientState}
-use Rattle.erst_machine.specs.MachineState.{MachineState}
 use Rattle.erst_machine.specs.Shown.{changes_of}
-use Rattle.erst_bridge.specs.Bridges.{BridgeState}
-use Rattle.erst_bridge.specs.Turns.{Turn, OfFirmware, OfBridge, Step, AreTurns}
+use Rattle.erst_bridge.specs.Bridges.{Asker}
+use Rattle.erst_bridge.specs.Turns.{Turn, OfFirmware, OfBridge, Step, BridgedMachine, AreTurns}
 use Rattle.erst_bridge.specs.declared.made.SideTurn.{SideTurn}
 use Rattle.erst_bridge.specs.declared.made.SideTurn.TheVariants.{Firmware as ByFirmware, Bridge as ByBridge}
 use Rattle.erst_bridge.specs.declared.made.MadeTurn.{MadeTurn}
@@ -40,9 +38,9 @@ AreCounted [] = Unit {0}
 AreCounted (step ∷ rest) = (changes_of step.machine ≡ step.machine.device.store.flash.steps) × AreCounted rest
 
 -- turns of these sides, one after another, with what is told of them
-pub record MakesTurns (tells : Type 0) (client : ClientState) (budget : ℕ) (bridge : BridgeState) (first : MachineState) (sides : List Side) (made : List MadeTurn) (next : BridgeState) (last : MachineState) : Type 0 where
+pub record MakesTurns (tells : Type 0) (asker : Asker) (old : BridgedMachine) (sides : List Side) (made : List MadeTurn) (new : BridgedMachine) : Type 0 where
   pub turns : List Step
-  pub are_turns : AreTurns tells client budget bridge first turns next last
+  pub are_turns : AreTurns tells asker.client asker.steps old.bridge old.machine turns new.bridge new.machine
   pub sides_are : sides_in turns ≡ sides
   pub made_is : made ≡ made_by turns
   pub counted : tells → AreCounted turns

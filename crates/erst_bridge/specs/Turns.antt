@@ -7,7 +7,7 @@ use Rattle.erst_machine.specs.MachineState.{MachineState}
 use Rattle.erst_machine.specs.Allowed.{Allows}
 use Rattle.erst_machine.specs.Events.{Turns}
 use Rattle.erst_bridge.specs.declared.events.BridgeEvent.{BridgeEvent}
-use Rattle.erst_bridge.specs.Bridges.{BridgeState, Bridges}
+use Rattle.erst_bridge.specs.Bridges.{BridgeState, station_rules, Asker, asker_of, outcome_of, Bridges}
 
 -- the block that the machine's reader took last
 abbrev pub last_of : MachineState → List ℕ
@@ -16,7 +16,8 @@ last_of state = state.handover.last
 -- a turn of a bridge over the machine
 abbrev pub BridgesMachine : Type 0 → ClientState → ℕ → MachineState → BridgeState → BridgeEvent → BridgeState → ℕ → MachineState → Type 0
 BridgesMachine tells client budget old bridge event next left new =
-    Bridges {S = MachineState} {W = MachineState} (λ state. state) (Allows tells) (Turns Reader) last_of client budget old bridge event next left new
+    Bridges (station_rules {S = MachineState} {W = MachineState} (λ state. state) (Allows tells) (Turns Reader) last_of) (asker_of client budget) old bridge event
+    (outcome_of next left new)
 
 -- a turn of either side, with what it did
 pub data Turn : Type 0 where
@@ -33,6 +34,17 @@ pub record Step : Type 0 where
 abbrev pub IsTurn : Type 0 → ClientState → ℕ → BridgeState → MachineState → Turn → BridgeState → MachineState → Type 0
 IsTurn tells client budget bridge old (OfFirmware event) next new = (next ≡ bridge) × Turns Firmware old event new
 IsTurn tells client budget bridge old (OfBridge event) next new = (left : ℕ) × BridgesMachine tells client budget old bridge event next left new
+
+-- a machine, and the bridge over it
+pub record BridgedMachine : Type 0 where
+  pub bridge : BridgeState
+  pub machine : MachineState
+
+abbrev pub bridged_machine : BridgeState → MachineState → BridgedMachine
+bridged_machine bridge machine = record { bridge = bridge; machine = machine }
+
+abbrev pub MakesTurn : Type 0 → Asker → BridgedMachine → Turn → BridgedMachine → Type 0
+MakesTurn tells asker old turn new = IsTurn tells asker.client asker.steps old.bridge old.machine turn new.bridge new.machine
 
 -- turns one after another
 abbrev pub AreTurns : Type 0 → ClientState → ℕ → BridgeState → MachineState → List Step → BridgeState → MachineState → Type 0

@@ -2,7 +2,7 @@
 ghost use Rattle.std.specs.Prelude.{◌≡◌, ◌≢◌, ◌≤◌, ◌<◌, ◌↔◌, ◌-◌, ◌^◌, ℕ, List, length, take, drop, IfOk, IsTrue};
 ghost use Rattle.erst_bridge.specs.BridgedRecord.{bridged};
 ghost use Rattle.erst_bridge.specs.declared.stages.BridgeStage.TheVariants.{Holding as IsHolding};
-ghost use Rattle.erst_bridge.specs.Bridges.{Off, Awaits, Holds, Bridges, state_of, HasRecord, after_reader, after_offer, IsStored};
+ghost use Rattle.erst_bridge.specs.Bridges.{Off, Awaits, Holds, station_rules, asker_of, outcome_of, Bridges, state_of, HasRecord, after_reader, after_offer, IsStored};
 ghost use Rattle.erst_bridge.specs.Causes.{OfEvent};
 
 use crate::events::BridgeEvent;
@@ -88,8 +88,8 @@ impl Bridge {
         station: &mut S,
     ) -> BridgeEvent
         requires { self.old ≢ Off }
-        ensures bridges { Bridges S.state S.allows S.reads S.last client.old budget.old station.old self.old result
-            self.new budget.new station.new }
+        ensures bridges { Bridges (station_rules S.state S.allows S.reads S.last) (asker_of client.old budget.old)
+            station.old self.old result (outcome_of self.new budget.new station.new) }
         ensures on { self.new ≢ Off }
         ensures client { client.new ≡ client.old }
         // A fault of the device is the reason of `Kept` only where the space's count of faults rose.
@@ -155,8 +155,8 @@ fn offer<S: Station>(
 ) -> BridgeEvent
     requires { 0 < id }
     ensures bridges { (block : List ℕ) → bytes.now ≡ bridged block id
-        → Bridges S.state S.allows S.reads S.last client.old budget.old station.old (Holds id block) result
-        (after_offer result id block) budget.new station.new }
+        → Bridges (station_rules S.state S.allows S.reads S.last) (asker_of client.old budget.old)
+        station.old (Holds id block) result (outcome_of (after_offer result id block) budget.new station.new) }
     ensures client { client.new ≡ client.old }
     ensures cause { OfEvent (S.faults (S.state station.old)) (S.faults (S.state station.new)) result }
 {

@@ -1,7 +1,7 @@
 // One turn, and turns one after another.
 ghost use Rattle.std.specs.Prelude.{◌≡◌, ◌≢◌, ◌≤◌, length, vec_capacity};
-ghost use Rattle.erst_bridge.specs.Bridges.{Off};
-ghost use Rattle.erst_bridge.specs.Turns.{IsTurn};
+ghost use Rattle.erst_bridge.specs.Bridges.{Off, asker_of};
+ghost use Rattle.erst_bridge.specs.Turns.{bridged_machine, MakesTurn};
 ghost use Rattle.erst_bridge.specs.Made.{turn_of, side_in, MakesTurns};
 
 use crate::Bridge;
@@ -22,7 +22,8 @@ pub fn turn_side<F: Flash>(
     side: Side,
 ) -> SideTurn
     requires { bridge.old ≢ Off }
-    ensures turn { IsTurn F.tells client.old steps bridge.old machine.old (turn_of result) bridge.new machine.new }
+    ensures turn { MakesTurn F.tells (asker_of client.old steps) (bridged_machine bridge.old machine.old) (turn_of result)
+        (bridged_machine bridge.new machine.new) }
     ensures side { side_in (turn_of result) ≡ side }
     ensures on { bridge.new ≢ Off }
     ensures client { client.new ≡ client.old }
@@ -48,8 +49,8 @@ pub fn turn_sides<F: Flash>(
 )
     requires on { bridge.old ≢ Off }
     requires room { length sides.now ≤ vec_capacity made.old }
-    ensures turns { MakesTurns F.tells client.old steps bridge.old machine.old sides.now made.new.items bridge.new
-        machine.new }
+    ensures turns { MakesTurns F.tells (asker_of client.old steps) (bridged_machine bridge.old machine.old) sides.now
+        made.new.items (bridged_machine bridge.new machine.new) }
     ensures on { bridge.new ≢ Off }
     ensures client { client.new ≡ client.old }
 {

@@ -65,6 +65,10 @@ pub data CopiesOut {W : Type 0} (allows : W → Call → W → Type 0) (address 
   IsFilled : (new : W) → allows old (ReadBytes address before after (Ok tt)) new → CopiesOut allows address before after old (Ok tt) new
   IsNotFilled : (fault : SpaceFault) (new : W) → allows old (ReadBytes address before after (Err fault)) new → CopiesOut allows address before after old (Err (Range fault)) new
 
+-- the same with its answer and what the buffer holds then as one value
+abbrev pub Fills : {W : Type 0} → (W → Call → W → Type 0) → ℕ → List ℕ → W → Result (Unit {0}) ClientError × List ℕ → W → Type 0
+Fills allows address out old filled new = CopiesOut allows address out filled.1 old filled.0 new
+
 -- the answer of a read whose last access was made
 abbrev pub copied : Result (Unit {0}) ClientError → ℕ → Result ℕ ClientError
 copied (Ok done) len = Ok len
@@ -88,6 +92,10 @@ pub data Reads {W : Type 0} (allows : W → Call → W → Type 0) (client : Cli
       LengthRead allows client mid field (Ok tt) next → copy_refusal (number_at field 0 4) client.range (length out) ≡ None →
       CopiesOut allows client.address (take (number_at field 0 4) out) whole next answer last →
       Reads allows client id out budget old (copied answer (number_at field 0 4)) (whole ++ drop (number_at field 0 4) out) left last
+
+-- the same with its answer and what the buffer holds then as one value
+abbrev pub ReadsInto : {W : Type 0} → (W → Call → W → Type 0) → ClientState → ℕ → List ℕ → ℕ → W → Result ℕ ClientError × List ℕ → ℕ → W → Type 0
+ReadsInto allows client id out budget old read left last = Reads allows client id out budget old read.0 read.1 left last
 
 -- GET_RECORD_COUNT and GET_RECORD_IDENTIFIER, without END_OPERATION
 abbrev pub counted : Result ℕ RunStop → Result ℕ ClientError

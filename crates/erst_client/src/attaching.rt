@@ -1,5 +1,6 @@
 // What a firmware's table says of its error log address range and of its timings.
 ghost use Rattle.std.specs.Prelude.{◌≡◌, ◌/◌, ◌%◌, ◌^◌};
+ghost use Rattle.erst_interp.specs.Moments.{Between, moment};
 ghost use Rattle.erst_client.specs.Attaching.{Attaches, AsksTimings, client_result, found_result};
 
 use crate::errors::AttachError;
@@ -26,8 +27,8 @@ pub fn find<S: Space>(
     budget: &mut Budget,
     space: &mut S,
 ) -> Result<FoundRange, AttachError>
-    ensures { Attaches S.allows table.now budget.old (S.state space.old)
-        (client_result table.now result) budget.new (S.state space.new) }
+    ensures { Between (Attaches S.allows table.now) (moment budget.old (S.state space.old))
+        (client_result table.now result) (moment budget.new (S.state space.new)) }
 {
     let address = match ask(table, Action::GetErrorLogAddressRange, budget, space) {
         Ok(address) => address,
@@ -59,8 +60,8 @@ fn ask_timings<S: Space>(
     budget: &mut Budget,
     space: &mut S,
 ) -> Result<Option<(u32, u32)>, RunStop>
-    ensures { AsksTimings S.allows table.now.entries budget.old (S.state space.old) result budget.new
-        (S.state space.new) }
+    ensures { Between (AsksTimings S.allows table.now.entries) (moment budget.old (S.state space.old)) result
+        (moment budget.new (S.state space.new)) }
 {
     if program_for(table, Action::GetExecuteOperationTimings).is_empty() {
         return Ok(None);

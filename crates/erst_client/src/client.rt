@@ -1,9 +1,10 @@
 // A client: a firmware's table, and what it says of itself.
 ghost use Rattle.std.specs.Prelude.{◌≡◌, Option};
 ghost use Rattle.apei_space.specs.Accesses.{Reaches};
+ghost use Rattle.erst_interp.specs.Moments.{Between, moment};
 ghost use Rattle.erst_client.specs.Timings.{enough_steps};
 ghost use Rattle.erst_client.specs.Sequences.{Sequence, clear_requests, dummy_requests};
-ghost use Rattle.erst_client.specs.Commands.{ClientState, Writes, Reads, Counts, Names};
+ghost use Rattle.erst_client.specs.Commands.{ClientState, Writes, ReadsInto, Counts, Names};
 ghost use Rattle.erst_client.specs.Attaching.{Attaches};
 ghost use Rattle.erst_client.specs.Causes.{HasDeviceCause, HasAttachCause};
 
@@ -43,8 +44,8 @@ impl Client {
         budget: &mut Budget,
         space: &mut S,
     ) -> Result<Client, AttachError>
-        ensures attaches { Attaches S.allows table budget.old (S.state space.old) result budget.new
-            (S.state space.new) }
+        ensures attaches { Between (Attaches S.allows table) (moment budget.old (S.state space.old)) result
+            (moment budget.new (S.state space.new)) }
         ensures reaches { Reaches S.allows (S.state space.old) (S.state space.new) }
         ensures cause { HasAttachCause (S.faults (S.state space.old)) (S.faults (S.state space.new)) result }
     {
@@ -86,8 +87,8 @@ impl Client {
         budget: &mut Budget,
         space: &mut S,
     ) -> Result<(), ClientError>
-        ensures writes { Writes S.allows self.old bytes.now budget.old (S.state space.old) result budget.new
-            (S.state space.new) }
+        ensures writes { Between (Writes S.allows self.old bytes.now) (moment budget.old (S.state space.old)) result
+            (moment budget.new (S.state space.new)) }
         ensures reaches { Reaches S.allows (S.state space.old) (S.state space.new) }
         ensures cause { HasDeviceCause (S.faults (S.state space.old)) (S.faults (S.state space.new)) result }
         ensures kept { self.new ≡ self.old }
@@ -104,8 +105,8 @@ impl Client {
         budget: &mut Budget,
         space: &mut S,
     ) -> Result<usize, ClientError>
-        ensures reads { Reads S.allows self.old id out.old budget.old (S.state space.old) result out.new budget.new
-            (S.state space.new) }
+        ensures reads { Between (ReadsInto S.allows self.old id out.old) (moment budget.old (S.state space.old))
+            (result, out.new) (moment budget.new (S.state space.new)) }
         ensures reaches { Reaches S.allows (S.state space.old) (S.state space.new) }
         ensures cause { HasDeviceCause (S.faults (S.state space.old)) (S.faults (S.state space.new)) result }
         ensures kept { self.new ≡ self.old }
@@ -120,8 +121,8 @@ impl Client {
         budget: &mut Budget,
         space: &mut S,
     ) -> Result<(), ClientError>
-        ensures clears { Sequence S.allows self.old.table.entries self.old.timings (clear_requests id) budget.old
-            (S.state space.old) result budget.new (S.state space.new) }
+        ensures clears { Between (Sequence S.allows self.old.table.entries self.old.timings (clear_requests id))
+            (moment budget.old (S.state space.old)) result (moment budget.new (S.state space.new)) }
         ensures reaches { Reaches S.allows (S.state space.old) (S.state space.new) }
         ensures cause { HasDeviceCause (S.faults (S.state space.old)) (S.faults (S.state space.new)) result }
         ensures kept { self.new ≡ self.old }
@@ -131,8 +132,8 @@ impl Client {
 
     /// Goes through a write that stores nothing.
     pub fn dummy<S: Space>(&mut self, budget: &mut Budget, space: &mut S) -> Result<(), ClientError>
-        ensures dummy { Sequence S.allows self.old.table.entries self.old.timings dummy_requests budget.old
-            (S.state space.old) result budget.new (S.state space.new) }
+        ensures dummy { Between (Sequence S.allows self.old.table.entries self.old.timings dummy_requests)
+            (moment budget.old (S.state space.old)) result (moment budget.new (S.state space.new)) }
         ensures reaches { Reaches S.allows (S.state space.old) (S.state space.new) }
         ensures cause { HasDeviceCause (S.faults (S.state space.old)) (S.faults (S.state space.new)) result }
         ensures kept { self.new ≡ self.old }
@@ -146,8 +147,8 @@ impl Client {
         budget: &mut Budget,
         space: &mut S,
     ) -> Result<u64, ClientError>
-        ensures counts { Counts S.allows self.old.table.entries budget.old (S.state space.old) result budget.new
-            (S.state space.new) }
+        ensures counts { Between (Counts S.allows self.old.table.entries) (moment budget.old (S.state space.old)) result
+            (moment budget.new (S.state space.new)) }
         ensures reaches { Reaches S.allows (S.state space.old) (S.state space.new) }
         ensures cause { HasDeviceCause (S.faults (S.state space.old)) (S.faults (S.state space.new)) result }
         ensures kept { self.new ≡ self.old }
@@ -161,8 +162,8 @@ impl Client {
         budget: &mut Budget,
         space: &mut S,
     ) -> Result<Option<u64>, ClientError>
-        ensures names { Names S.allows self.old.table.entries budget.old (S.state space.old) result budget.new
-            (S.state space.new) }
+        ensures names { Between (Names S.allows self.old.table.entries) (moment budget.old (S.state space.old)) result
+            (moment budget.new (S.state space.new)) }
         ensures reaches { Reaches S.allows (S.state space.old) (S.state space.new) }
         ensures cause { HasDeviceCause (S.faults (S.state space.old)) (S.faults (S.state space.new)) result }
         ensures kept { self.new ≡ self.old }

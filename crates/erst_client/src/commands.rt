@@ -1,6 +1,7 @@
 // The commands of a client, over the parts that it is made of.
 ghost use Rattle.std.specs.Prelude.{◌≡◌, ◌+◌, ◌≤◌, ◌<◌, ◌^◌, ◌++◌, length, take, drop, codes};
-ghost use Rattle.erst_client.specs.Commands.{Writes, Puts, Reads, Counts, Names, CopiesOut, write_refusal, copy_refusal};
+ghost use Rattle.erst_interp.specs.Moments.{Between, moment};
+ghost use Rattle.erst_client.specs.Commands.{Writes, Puts, ReadsInto, Counts, Names, Fills, write_refusal, copy_refusal};
 ghost use Rattle.erst_client.specs.Attaching.{client_with};
 ghost use Rattle.erst_client.specs.Sequences.{Sequence, read_requests, clear_requests, dummy_requests};
 
@@ -33,8 +34,8 @@ pub fn write_record<S: Space>(
     budget: &mut Budget,
     space: &mut S,
 ) -> Result<(), ClientError>
-    ensures { Writes S.allows (client_with table.now found) bytes.now budget.old (S.state space.old) result budget.new
-        (S.state space.new) }
+    ensures { Between (Writes S.allows (client_with table.now found) bytes.now) (moment budget.old (S.state space.old))
+        result (moment budget.new (S.state space.new)) }
 {
     if let Some(error) = refusal(bytes, found.len) {
         return Err(error);
@@ -92,8 +93,8 @@ pub fn read_record<S: Space>(
     budget: &mut Budget,
     space: &mut S,
 ) -> Result<usize, ClientError>
-    ensures { Reads S.allows (client_with table.now found) id out.old budget.old (S.state space.old) result out.new
-        budget.new (S.state space.new) }
+    ensures { Between (ReadsInto S.allows (client_with table.now found) id out.old)
+        (moment budget.old (S.state space.old)) (result, out.new) (moment budget.new (S.state space.new)) }
 {
     sequence(table, found.timings, &requests_to_read(id), budget, space)?;
     let mut field = [0; 4];
@@ -147,8 +148,8 @@ pub fn clear_record<S: Space>(
     budget: &mut Budget,
     space: &mut S,
 ) -> Result<(), ClientError>
-    ensures { Sequence S.allows table.now.entries found.timings (clear_requests id) budget.old (S.state space.old)
-        result budget.new (S.state space.new) }
+    ensures { Between (Sequence S.allows table.now.entries found.timings (clear_requests id))
+        (moment budget.old (S.state space.old)) result (moment budget.new (S.state space.new)) }
 {
     let requests = [
         plain(Action::BeginClearOperation),
@@ -168,8 +169,8 @@ pub fn write_dummy<S: Space>(
     budget: &mut Budget,
     space: &mut S,
 ) -> Result<(), ClientError>
-    ensures { Sequence S.allows table.now.entries found.timings dummy_requests budget.old (S.state space.old) result
-        budget.new (S.state space.new) }
+    ensures { Between (Sequence S.allows table.now.entries found.timings dummy_requests)
+        (moment budget.old (S.state space.old)) result (moment budget.new (S.state space.new)) }
 {
     let requests = [
         plain(Action::BeginDummyWriteOperation),
@@ -185,7 +186,8 @@ pub fn count_records<S: Space>(
     budget: &mut Budget,
     space: &mut S,
 ) -> Result<u64, ClientError>
-    ensures { Counts S.allows table.now.entries budget.old (S.state space.old) result budget.new (S.state space.new) }
+    ensures { Between (Counts S.allows table.now.entries) (moment budget.old (S.state space.old)) result
+        (moment budget.new (S.state space.new)) }
 {
     match ask(table, Action::GetRecordCount, budget, space) {
         Ok(count) => {
@@ -205,7 +207,8 @@ pub fn next_identifier<S: Space>(
     budget: &mut Budget,
     space: &mut S,
 ) -> Result<Option<u64>, ClientError>
-    ensures { Names S.allows table.now.entries budget.old (S.state space.old) result budget.new (S.state space.new) }
+    ensures { Between (Names S.allows table.now.entries) (moment budget.old (S.state space.old)) result
+        (moment budget.new (S.state space.new)) }
 {
     match ask(table, Action::GetRecordIdentifier, budget, space) {
         Ok(0) => Err(ClientError::Hardware),
@@ -218,7 +221,7 @@ pub fn next_identifier<S: Space>(
 /// Fills the buffer from the start of the range.
 #[tactic(auto, using(crate::proofs::Rules::commands))]
 fn copy_out<S: Space>(address: u64, out: &mut [u8], space: &mut S) -> Result<(), ClientError>
-    ensures { CopiesOut S.allows address out.old out.new (S.state space.old) result (S.state space.new) }
+    ensures { Fills S.allows address out.old (S.state space.old) (result, out.new) (S.state space.new) }
 {
     match space.read_bytes(address, out) {
         Ok(()) => Ok(()),

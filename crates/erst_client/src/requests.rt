@@ -2,6 +2,7 @@
 ghost use Rattle.std.specs.Prelude.{◌≡◌};
 ghost use Rattle.erst_entries.specs.Actions.{code_of};
 ghost use Rattle.erst_entries.specs.Programs.{program_of};
+ghost use Rattle.erst_interp.specs.Moments.{Between, moment};
 ghost use Rattle.erst_client.specs.Requests.{Performs, AsksAll};
 
 use apei_space::Space;
@@ -29,8 +30,8 @@ pub fn ask<S: Space>(
     budget: &mut Budget,
     space: &mut S,
 ) -> Result<u64, RunStop>
-    ensures { Performs S.allows table.now.entries action 0 budget.old (S.state space.old) result budget.new
-        (S.state space.new) }
+    ensures { Between (Performs S.allows table.now.entries action 0) (moment budget.old (S.state space.old)) result
+        (moment budget.new (S.state space.new)) }
 {
     perform(table, action, 0, budget, space)
 }
@@ -43,8 +44,8 @@ fn perform<S: Space>(
     budget: &mut Budget,
     space: &mut S,
 ) -> Result<u64, RunStop>
-    ensures { Performs S.allows table.now.entries action given budget.old (S.state space.old) result budget.new
-        (S.state space.new) }
+    ensures { Between (Performs S.allows table.now.entries action given) (moment budget.old (S.state space.old)) result
+        (moment budget.new (S.state space.new)) }
 {
     run(&program_for(table, action), given, budget, space)
 }
@@ -57,8 +58,8 @@ pub fn ask_all<S: Space>(
     budget: &mut Budget,
     space: &mut S,
 ) -> Result<(), RunStop>
-    ensures { AsksAll S.allows table.now.entries requests.now budget.old (S.state space.old) result budget.new
-        (S.state space.new) }
+    ensures { Between (AsksAll S.allows table.now.entries requests.now) (moment budget.old (S.state space.old)) result
+        (moment budget.new (S.state space.new)) }
 {
     for request in requests {
         match perform(table, request.action, request.given, budget, space) {

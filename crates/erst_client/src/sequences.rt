@@ -1,5 +1,6 @@
 // The sequence of a command.
 ghost use Rattle.std.specs.Prelude.{◌≡◌, ◌≤◌, ◌^◌, IfOk};
+ghost use Rattle.erst_interp.specs.Moments.{Between, moment};
 ghost use Rattle.erst_client.specs.Sequences.{Waits, UntilStatus, Sequence, judged};
 ghost use Rattle.erst_client.specs.Waiting.{Paused};
 
@@ -25,8 +26,8 @@ pub fn sequence<S: Space>(
     budget: &mut Budget,
     space: &mut S,
 ) -> Result<(), ClientError>
-    ensures { Sequence S.allows table.now.entries timings requests.now budget.old (S.state space.old) result
-        budget.new (S.state space.new) }
+    ensures { Between (Sequence S.allows table.now.entries timings requests.now) (moment budget.old (S.state space.old))
+        result (moment budget.new (S.state space.new)) }
 {
     let outcome = command(table, timings, requests, budget, space);
     let ended = ask(
@@ -53,8 +54,8 @@ fn command<S: Space>(
     budget: &mut Budget,
     space: &mut S,
 ) -> Result<(), ClientError>
-    ensures { UntilStatus S.allows table.now.entries timings requests.now budget.old (S.state space.old) result
-        budget.new (S.state space.new) }
+    ensures { Between (UntilStatus S.allows table.now.entries timings requests.now)
+        (moment budget.old (S.state space.old)) result (moment budget.new (S.state space.new)) }
 {
     match ask_all(table, requests, budget, space) {
         Ok(()) => {}
@@ -75,8 +76,8 @@ fn wait<S: Space>(
     budget: &mut Budget,
     space: &mut S,
 ) -> Result<(), ClientError>
-    ensures { Waits S.allows table.now.entries timings budget.old (S.state space.old) result budget.new
-        (S.state space.new) }
+    ensures { Between (Waits S.allows table.now.entries timings) (moment budget.old (S.state space.old)) result
+        (moment budget.new (S.state space.new)) }
 {
     let program = program_for(table, Action::CheckBusyStatus);
     let mut waited = 0;

@@ -1,5 +1,5 @@
 -- A write or clear from its start to END_OPERATION.
-use Rattle.std.proofs.Common.{◌≡◌, ◌⊎◌, ℕ, suc, ◌+◌, ◌*◌, ◌<◌, ◌≤◌, max, true, false, List, Some, None, Result, Ok, Err, refl, sym, ap, subst, ◌∙◌, arith, inl, inr}
+use Rattle.std.proofs.Common.{◌≡◌, ◌⊎◌, ℕ, suc, ◌+◌, ◌*◌, ◌<◌, ◌≤◌, max, true, false, cond, List, Some, None, Result, Ok, Err, refl, sym, ap, subst, ◌∙◌, arith, inl, inr}
 use Rattle.base_model.specs.Faults.{Rose}
 use Rattle.base_model.specs.Flash.{FlashState}
 use Rattle.base_model.specs.Layout.{Layout}
@@ -28,7 +28,7 @@ use Rattle.erst_machine.specs.Allowed.{Allows}
 use Rattle.erst_machine.specs.OwnTables.{own_entries}
 use Rattle.erst_commands.specs.OwnPrograms.{with_value, OwnProgramsRun}
 use Rattle.erst_commands.specs.Attached.{own_client}
-use Rattle.erst_commands.specs.Changes.{IsErrorOf, copies_first, waits_after, ChangeLeaves, ChangeCommand, IsTaken, IsRefused, IsFailed, IsStopped}
+use Rattle.erst_commands.specs.Changes.{IsErrorOf, waits_after, ChangeLeaves, ChangeCommand, IsTaken, IsRefused, IsFailed, IsStopped}
 use Rattle.erst_commands.proofs.MachineSteps.{on_device}
 use Rattle.erst_commands.proofs.SequenceLemmas.{Untouched, Opened, StillWaited, IsAtOnce, IsShort, wait_still, ended_from, status_in, HasTold, HasNotTold, HasNotWaited, HasNotAsked, sequence_ends, opened_ok, opened_short}
 use Rattle.erst_commands.proofs.WayLemmas.{Leads, OnWay, Broken, Midway, of_way, WayWaited, WayEnds, WayBreaks, WayStops, wait_way}
@@ -56,6 +56,10 @@ pub record StartedChange (first start : MachineState) (id : ℕ) (command : Comm
   pub more : ℕ
   pub all : changes_of first.device.store.layout command (records_of first) ≡ suc more
   pub leads : Leads (suc more) start.device.store.layout start.device.store.pending (stored start.device.store) (after first.device.store.layout command (records_of first))
+
+-- the second copies that a command on an identifier ends before all else
+abbrev pub copies_first : ℕ → StoreView → ℕ
+copies_first id store = cond (is_reserved id) 0 (copies_of (abandoned store))
 
 -- one that does not
 pub data UnstartedAnswer (first start : MachineState) (id : ℕ) (command : Command) : Type 0 where

@@ -21,7 +21,7 @@ use Rattle.erst_machine.specs.declared.areas.Register.TheVariants.{Action, Value
 use Rattle.erst_machine.specs.Areas.{place_location, register_at}
 use Rattle.erst_machine.specs.Memories.{MemoryState, bytes_in, with_bytes}
 use Rattle.erst_machine.specs.MachineState.{MachineState, location_of, location_at}
-use Rattle.erst_machine.specs.Allowed.{ActsOn, RegisterWritten, AreaWritten, NumberWritten, number_read, area_read, register_read, put_in, area_bytes, bytes_read, area_stored, bytes_stored, copy_fault, copied_from, copied_to, copied, copy_of, Allows}
+use Rattle.erst_machine.specs.Allowed.{ActsOn, write_of, RegisterWritten, AreaWritten, NumberWritten, number_read, area_read, register_read, put_in, area_bytes, bytes_read, area_stored, bytes_stored, copy_fault, copied_from, copied_to, copied, copy_of, Allows}
 use Rattle.erst_commands.specs.Equivalence.{DeviceOutline, MachineOutline, device_outline, machine_outline, EquivalentMachines, FailedNothing, bytes_shown, any_buffer, answered, AskAlike}
 use Rattle.erst_commands.proofs.DeviceOutlines.{Became, became, became_alike}
 
@@ -139,7 +139,7 @@ module _ (tells : Type 0) (told : tells) (one other : MachineState) (equivalent 
 
   -- writes of a number
   module _ (at : ℕ) (width : Width) (value : ℕ) (x y : Result (Unit {0}) SpaceFault) (one_after other_after : MachineState) (quiet : FailedNothing one one_after) (also_quiet : FailedNothing other other_after) where
-    written_register : (register : Register) → RegisterWritten tells register one at width value x one_after → RegisterWritten tells register other at width value y other_after → BothDo x y one_after other_after
+    written_register : (register : Register) → RegisterWritten tells register one (write_of at width value x) one_after → RegisterWritten tells register other (write_of at width value y) other_after → BothDo x y one_after other_after
     written_register Action first second = record { answer = first.0 ∙ sym second.0; equivalent = acts_alike (value % 2 ^ 32) one_after other_after first.1 quiet second.1 also_quiet }
     written_register Value first second = record {
       answer = first.0 ∙ sym second.0;
@@ -152,7 +152,7 @@ module _ (tells : Type 0) (told : tells) (one other : MachineState) (equivalent 
         → BothDo x y one_after other_after
     written_put area start first second = record { answer = first.0 ∙ sym second.0; equivalent = become_alike one_after other_after _ _ first.1 second.1 (put_alike area start (spelled (bits width / 8) value)) }
 
-    written_area : (area : Area) (start : ℕ) → AreaWritten tells area start one at width value x one_after → AreaWritten tells area start other at width value y other_after → BothDo x y one_after other_after
+    written_area : (area : Area) (start : ℕ) → AreaWritten tells area start one (write_of at width value x) one_after → AreaWritten tells area start other (write_of at width value y) other_after → BothDo x y one_after other_after
     written_area Device start first second = written_register (register_at start width) first second
     written_area Handover start first second = record { answer = first.0 ∙ sym second.0; equivalent = become_alike one_after other_after one other first.1 second.1 equivalent }
     written_area BootErrors start first second = record { answer = first.0 ∙ sym second.0; equivalent = become_alike one_after other_after one other first.1 second.1 equivalent }
@@ -160,7 +160,7 @@ module _ (tells : Type 0) (told : tells) (one other : MachineState) (equivalent 
     written_area LogRange start first second = written_put LogRange start first second
     written_area Ports start first second = written_put Ports start first second
 
-    written_alike : (location : Location) → NumberWritten tells location one at width value x one_after → NumberWritten tells location other at width value y other_after → BothDo x y one_after other_after
+    written_alike : (location : Location) → NumberWritten tells location one (write_of at width value x) one_after → NumberWritten tells location other (write_of at width value y) other_after → BothDo x y one_after other_after
     written_alike (Inside area start) first second = written_area area start first second
     written_alike (Beyond area address) first second = record { answer = first.0 ∙ sym second.0; equivalent = become_alike one_after other_after one other first.1 second.1 equivalent }
     written_alike (Nowhere address) first second = record { answer = first.0 ∙ sym second.0; equivalent = become_alike one_after other_after one other first.1 second.1 equivalent }
@@ -179,7 +179,7 @@ module _ (tells : Type 0) (told : tells) (one other : MachineState) (equivalent 
       → Allows tells other (Write at width value y) other_after → FailedNothing other other_after → BothDo x y one_after other_after
   write_both at width value x y one_after other_after first quiet second also_quiet =
       written_alike (address_of at) width value x y one_after other_after quiet also_quiet (location_of one at (bits width / 8)) first
-      (subst (λ (s : Location). NumberWritten tells s other (address_of at) width value y other_after) (same_location at (bits width / 8)) second)
+      (subst (λ (s : Location). NumberWritten tells s other (write_of (address_of at) width value y) other_after) (same_location at (bits width / 8)) second)
 
   wait_both : (micros : ℕ) (one_after other_after : MachineState) → Allows tells one (Wait micros) one_after → Allows tells other (Wait micros) other_after → EquivalentMachines one_after other_after
   wait_both micros one_after other_after first second =

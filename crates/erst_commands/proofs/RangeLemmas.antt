@@ -6,8 +6,8 @@ use Rattle.std.proofs.lemmas.List.{take_at, take-append-le, drop-append-le}
 use Rattle.base_model.specs.Bytes.{part, little, number_at, put_at}
 use Rattle.base_model.proofs.BytesLemmas.{length-put_at, part-before, SameOutside-put_at}
 use Rattle.cper_frame.specs.declared.error.FrameError.{FrameError}
-use Rattle.cper_frame.specs.declared.error.FrameError.TheVariants.{Need, Start, End, Length, Limit}
-use Rattle.cper_frame.specs.Reading.{signature, section_count, record_length, misplaced, length_if_placed, head_verdict, checked}
+use Rattle.cper_frame.specs.declared.error.FrameError.TheVariants.{Need, Start, End, Length, Section, Limit}
+use Rattle.cper_frame.specs.Reading.{signature, section_count, record_length, misplaced, checked}
 use Rattle.cper_frame.specs.Grammar.{bodies_from}
 use Rattle.erst_client.specs.Commands.{write_refusal, frame_refusal}
 use Rattle.erst_client.proofs.RefusalLemmas.{length_fits}
@@ -44,7 +44,7 @@ location-mark reach fits =
 -- What the frame's checks say of a whole record
 
 passed : (a b c d e : Bool) (first second third fourth fifth : FrameError) (len : ℕ) (bad : Option ℕ) (k : ℕ)
-    → cond {A = Result ℕ FrameError} a (cond b (cond c (Err first) (cond d (Err second) (cond e (Err third) (length_if_placed len bad)))) (Err fourth)) (Err fifth) ≡ Ok k → (e ≡ false) × (len ≡ k)
+    → cond {A = Result ℕ FrameError} a (cond b (cond c (Err first) (cond d (Err second) (cond e (Err third) (elim bad as (λ _. Result ℕ FrameError) [ None ↦ Ok len | Some index ↦ Err (Section index) ])))) (Err fourth)) (Err fifth) ≡ Ok k → (e ≡ false) × (len ≡ k)
 passed true true false false false first second third fourth fifth len None k h = (refl, cc h)
 passed a b c d e first second third fourth fifth len bad k h = absurd (cc h)
 
@@ -62,7 +62,7 @@ pub record IsRecord (bytes : List ℕ) (range : ℕ) : Type 0 where
   pub fits : length bytes ≤ range
 
 checked_says : (bytes : List ℕ) (len : ℕ) → checked (2 ^ 32 - 1) bytes ≡ Ok len → (128 ≤ length bytes) × (number_at bytes 20 4 ≡ len) × (len ≤ length bytes)
-unfolding checked head_verdict
+unfolding checked
 checked_says bytes len is =
     let whole = long (nat_lt (length bytes) 128) _ _ len is in
     let rest : (nat_lt (length bytes) (record_length bytes) ≡ false) × (record_length bytes ≡ len) =

@@ -1,5 +1,5 @@
 -- A read by the machine's own table is the map's.
-use Rattle.std.proofs.Common.{◌≡◌, ◌≢◌, ◌⊎◌, ℕ, zero, suc, ◌+◌, ◌^◌, ◌<◌, ◌≤◌, Bool, true, false, cond, eqb, List, ◌++◌, length, take, drop, Option, Some, None, Result, Ok, Err, refl, sym, ap, subst, ◌∙◌, arith, inl, inr}
+use Rattle.std.proofs.Common.{◌≡◌, ◌≢◌, ◌⊎◌, ℕ, zero, suc, ◌+◌, ◌^◌, ◌<◌, ◌≤◌, Bool, true, false, cond, is_ok, if◌then◌else◌, eqb, List, ◌++◌, length, take, drop, Option, Some, None, Result, Ok, Err, refl, sym, ap, subst, ◌∙◌, arith, inl, inr}
 use Rattle.std.specs.Prelude.{◌||◌, is_some, IsSome}
 use Rattle.std.specs.Ordering.{nat_cmp}
 use Rattle.std.specs.FinMap.{empty, get, len, get-empty, len-empty, same_map, nat_cmp-IsAntisymmetric}
@@ -41,10 +41,10 @@ use Rattle.erst_device.proofs.EffectLemmas.{faults_rise}
 use Rattle.erst_machine.specs.MachineState.{MachineState, IsMachine, records_of}
 use Rattle.erst_machine.specs.Allowed.{Allows, ActsOn}
 use Rattle.erst_machine.specs.OwnTables.{own_entries}
-use Rattle.erst_commands.specs.OwnPrograms.{with_value, answer_of, IsMade, StopsAtOnce, StopsBefore as stops_before, StopsBehind as stops_behind, OwnProgramsRun}
+use Rattle.erst_commands.specs.OwnPrograms.{with_value, with_range, answer_of, IsMade, StopsAtOnce, StopsBefore as stops_before, StopsBehind as stops_behind, OwnProgramsRun}
 use Rattle.erst_commands.specs.Looks.{OnlyLooked, HasAsked}
 use Rattle.erst_commands.specs.Changes.{OfEmpty, OfNotFound}
-use Rattle.erst_commands.specs.Reads.{ReadLeaves, ReadAsked, ReadMade, IsRead, IsRefused, IsFailed, steps_to, ReadCommand, Answers, StopsBehind, StopsBefore}
+use Rattle.erst_commands.specs.Reads.{ReadMade, IsRead, IsRefused, IsFailed, ReadCommand, Answers, StopsBehind, StopsBefore}
 use Rattle.erst_commands.proofs.ActionCases.{checks_reading}
 use Rattle.erst_commands.proofs.MachineSteps.{on_device, acted_range}
 use Rattle.erst_commands.proofs.OwnProgramLemmas.{steps-check}
@@ -60,6 +60,11 @@ unfolding own_entries entries_of
 needs-read id = refl
 
 -- From a machine to the end of the sequence
+abbrev ReadLeaves : MachineState → MachineState → Type 0
+ReadLeaves first last = OnlyLooked (with_range last.memory.range first) last
+
+abbrev ReadAsked : MachineState → MachineState → Type 0
+ReadAsked first last = HasAsked (with_range last.memory.range first) last
 
 of_looked : (first last : MachineState) → OnlyLooked first last → ReadLeaves first last
 of_looked first last looked = record {
@@ -72,7 +77,7 @@ of_looked first last looked = record {
 }
 
 of_asked : (first last : MachineState) → HasAsked first last → ReadAsked first last
-of_asked first last asked = record { leaves = of_looked first last asked.looked; steps = asked.steps; certain = asked.certain; faults = asked.faults }
+of_asked first last asked = record { looked = of_looked first last asked.looked; steps = asked.steps; certain = asked.certain; faults = asked.faults }
 
 same_range : (first last : MachineState) → OnlyLooked first last → last.memory.range ≡ first.memory.range
 same_range first last looked = ap (λ (m : MachineState). m.memory.range) looked.elsewhere
@@ -89,9 +94,9 @@ leaves_end first w value leaves = record {
 
 asked_end : (first w : MachineState) (value : ℕ) → ReadAsked first w → ReadAsked first (ended_from (with_value value w))
 asked_end first w value asked = record {
-  leaves = leaves_end first w value asked.leaves;
+  looked = leaves_end first w value asked.looked;
   steps = asked.steps;
-  certain = ap (λ (s : StoreView). s.in_doubt) (abandoned_idle w.device.store asked.leaves.idle) ∙ asked.certain;
+  certain = ap (λ (s : StoreView). s.in_doubt) (abandoned_idle w.device.store asked.looked.idle) ∙ asked.certain;
   faults = asked.faults;
 }
 
@@ -307,7 +312,7 @@ module _ (tells : Type 0) (told : tells) (first start : MachineState) (id found 
       subst (λ (r : Result (Unit {0}) ClientError). ReadMade first new id r) (sym (ap (λ (d : DeviceState). judged (number_of d.status)) is))
       (IsRead found body generation
       (record {
-        leaves = shown_leaves new store (Ok size) out read there elsewhere;
+        looked = shown_leaves new store (Ok size) out read there elsewhere;
         steps = ap (λ (s : StoreView). s.flash.steps) there ∙ added store.flash.steps start.device.store.flash.steps (copies_of start.device.store) _ _ steps none asked.steps;
         certain = ap (λ (s : StoreView). s.in_doubt) there ∙ leaves.doubt.certain;
         faults = ap (λ (s : StoreView). s.flash.faults) there ∙ leaves.cause ∙ asked.faults;
@@ -405,7 +410,7 @@ module _ (tells : Type 0) (own : OwnProgramsRun tells) (w : MachineState) (answe
         | ChecksHalf new acted one ↦ λ e. subst (λ (s : RunStop). OnceWaited budget (Err (Stopped s)) 0 new) (same_stop Budget stop e) (IsHalf new acted one)
       ]) is
 
-few_to : (result : Result (Unit {0}) ClientError) → steps_to result ≤ 7
+few_to : (result : Result (Unit {0}) ClientError) → (if is_ok result then 7 else 6) ≤ 7
 few_to (Ok done) = omega arith
 few_to (Err error) = omega arith
 

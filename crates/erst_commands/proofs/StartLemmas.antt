@@ -41,13 +41,13 @@ use Rattle.erst_machine.specs.Allowed.{Allows}
 use Rattle.erst_machine.specs.OwnTables.{own_entries}
 use Rattle.erst_commands.specs.OwnPrograms.{with_value, OwnProgramsRun}
 use Rattle.erst_commands.specs.Attached.{own_client}
-use Rattle.erst_commands.specs.Changes.{OfFailed, OfNoSpace, OfNotFound, copies_first, HoldsRecord, ChangeCommand, DummyLeaves, DummyCommand, IsPlayed, IsCut}
+use Rattle.erst_commands.specs.Changes.{OfFailed, OfNoSpace, OfNotFound, HoldsRecord, ChangeCommand, DummyLeaves, DummyCommand, IsPlayed, IsCut}
 use Rattle.erst_commands.proofs.MachineSteps.{on_device}
 use Rattle.erst_commands.proofs.LimitLemmas.{changes-most}
 use Rattle.erst_commands.proofs.SequenceLemmas.{Untouched, Opened, opened_weaker, opened_ok, opened_short, StillWaited, IsAtOnce, IsShort, wait_still, ended_from, status_in, HasTold, HasNotTold, HasNotWaited, HasNotAsked, sequence_ends}
 use Rattle.erst_commands.proofs.OpenLemmas.{IsOn, offset_device, clearing_device, write_opens, dummy_opens, clear_opens}
 use Rattle.erst_commands.proofs.WayLemmas.{Leads, write_leads, some_changes}
-use Rattle.erst_commands.proofs.ChangeLemmas.{Base, StartedChange, UnstartedChange, UnstartedAnswer, RefusedBy, FailedBy, change_command}
+use Rattle.erst_commands.proofs.ChangeLemmas.{Base, StartedChange, UnstartedChange, UnstartedAnswer, RefusedBy, FailedBy, copies_first, change_command}
 use Rattle.erst_commands.proofs.SharedLemmas.{differ}
 
 -- the steps of a sequence of three requests, with one that gives a value

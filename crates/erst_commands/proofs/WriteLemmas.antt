@@ -12,9 +12,9 @@ use Rattle.erst_machine.specs.declared.areas.Location.{Location}
 use Rattle.erst_machine.specs.MachineState.{MachineState, IsMachine, reach_in}
 use Rattle.erst_machine.specs.Allowed.{Allows, bytes_stored}
 use Rattle.erst_machine.specs.OwnTables.{own_entries}
-use Rattle.erst_commands.specs.OwnPrograms.{OwnProgramsRun}
+use Rattle.erst_commands.specs.OwnPrograms.{with_range, OwnProgramsRun}
 use Rattle.erst_commands.specs.Attached.{own_client}
-use Rattle.erst_commands.specs.Writes.{marked, id_of, with_record, WriteAnswered, IsNoRecord, IsWritten}
+use Rattle.erst_commands.specs.Writes.{marked, id_of, WriteAnswered, IsNoRecord, IsWritten}
 use Rattle.erst_commands.proofs.RangeLemmas.{location-start, location-mark, IsRecord, not_refused, marked-put, holds-marked}
 use Rattle.erst_commands.proofs.StartLemmas.{write_command}
 
@@ -23,6 +23,10 @@ no_fault fault e = absurd (cc e)
 
 no_error : (error : ClientError) → ◌≡◌ {A = Result (Unit {0}) ClientError} (Ok tt) (Err error) → ⊥
 no_error error e = absurd (cc e)
+
+-- the machine with these bytes at the start of its log range
+abbrev with_record : List ℕ → MachineState → MachineState
+with_record bytes state = with_range (put_at state.memory.range 0 bytes) state
 
 module _ (tells : Type 0) (first : MachineState) (machine : IsMachine first) (bytes : List ℕ) (is : IsRecord bytes (reach_in first.device)) where
   start_location : (answer : Result (Unit {0}) SpaceFault) (new : MachineState) → Allows tells first (WriteBytes 0x100000 bytes answer) new

@@ -4,7 +4,7 @@ use Rattle.base_model.specs.Bytes.{part, number_at}
 use Rattle.base_model.specs.Faults.{Rose}
 use Rattle.record_model.specs.Records.{is_reserved}
 use Rattle.record_model.specs.RecordMap.{Command, Refusal, Failed as refused_for_good, NoSpace as no_space, NotFound as not_found, Empty as empty, refusal_of, after, changes_of}
-use Rattle.record_store.specs.Store.{StoreView, Idle, IsBeforeOrAfter, DividesAlike, abandoned}
+use Rattle.record_store.specs.Store.{Idle, IsBeforeOrAfter, DividesAlike, abandoned}
 use Rattle.cper_frame.specs.Reading.{id_place}
 use Rattle.record_store.specs.Answers.{copies_of}
 use Rattle.erst_interp.specs.declared.stops.RunStop.TheVariants.{Budget}
@@ -21,10 +21,6 @@ pub data IsErrorOf : Refusal → ClientError → Type 0 where
   OfNoSpace : IsErrorOf no_space NoSpace
   OfNotFound : IsErrorOf not_found NotFound
   OfEmpty : IsErrorOf empty Empty
-
--- the second copies that a command on an identifier ends before all else: none where it is reserved, since the store is not asked
-abbrev pub copies_first : ℕ → StoreView → ℕ
-copies_first id store = if is_reserved id then 0 else copies_of (abandoned store)
 
 -- the sum of all waits after so many pauses of 10 microseconds
 abbrev pub waits_after : ℕ → ℕ → ℕ
@@ -51,11 +47,12 @@ pub record ChangeLeaves (first last : MachineState) (command : Command) (pauses 
   pub elsewhere : last ≡ record first { device = last.device; waited = waits_after pauses first.waited }
 
 -- the flash failed nothing: one run of CHECK_BUSY_STATUS for each change, and one where there is none; exactly the changes that the map
--- gives, and before them those that end second copies; the store knows its records
+-- gives, and before them those that end second copies; the store knows its records. Of a reserved identifier the store is not asked
 pub record ChangeMade (first last : MachineState) (id : ℕ) (command : Command) (pauses : ℕ) : Type 0 where
   pub leaves : ChangeLeaves first last command pauses
   pub checks : pauses + 1 ≡ max 1 (changes_of first.device.store.layout command (records_of first))
-  pub steps : last.device.store.flash.steps ≡ first.device.store.flash.steps + (copies_first id first.device.store + changes_of first.device.store.layout command (records_of first))
+  pub steps : last.device.store.flash.steps ≡ first.device.store.flash.steps
+      + ((if is_reserved id then 0 else copies_of (abandoned first.device.store)) + changes_of first.device.store.layout command (records_of first))
   pub faults : last.device.store.flash.faults ≡ first.device.store.flash.faults
   pub certain : is_reserved id ≡ false → last.device.store.in_doubt ≡ false
   pub unasked : is_reserved id ≡ true → last.device.store ≡ abandoned first.device.store

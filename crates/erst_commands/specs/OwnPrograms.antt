@@ -1,5 +1,5 @@
 -- The programs of the machine's own table over the machine: what a run of each does. `tells` says whether the flash tells its content.
-use Rattle.std.specs.Prelude.{◌≡◌, ℕ, ◌+◌, ◌%◌, ◌^◌, Bool, true, false, ◌==◌, ◌||◌, not, is_some, if◌then◌else◌, Result, Ok, Err}
+use Rattle.std.specs.Prelude.{◌≡◌, ℕ, ◌+◌, ◌%◌, ◌^◌, Bool, true, false, ◌==◌, ◌||◌, not, is_some, if◌then◌else◌, List, Result, Ok, Err}
 use Rattle.erst_entries.specs.declared.actions.Action.{Action}
 use Rattle.erst_entries.specs.declared.actions.Action.TheVariants.{EndOperation, SetRecordOffset, SetRecordIdentifier, CheckBusyStatus, GetCommandStatus, GetRecordCount}
 use Rattle.erst_entries.specs.Actions.{code_of}
@@ -15,6 +15,10 @@ use Rattle.erst_machine.specs.OwnTables.{own_entries}
 -- the machine with a number in VALUE
 abbrev pub with_value : ℕ → MachineState → MachineState
 with_value value state = record state { device = record state.device { value = value } }
+
+-- the machine with these bytes in its log range
+abbrev pub with_range : List ℕ → MachineState → MachineState
+with_range range state = record state { memory = record state.memory { range = range } }
 
 -- the actions whose programs write the given value to VALUE first
 abbrev pub takes_value : Action → Bool

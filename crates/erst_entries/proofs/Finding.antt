@@ -1,15 +1,17 @@
 -- What is found is the one table that the bytes begin with.
-use Rattle.std.proofs.Common.{◌≡◌, ◌⊎◌, ℕ, ◌+◌, ◌*◌, ◌<◌, ◌≤◌, ◌^◌, ◌==◌, ◌||◌, not, true, List, [], ◌∷◌, ◌++◌, length, take, drop, Some, None, inl, inr, eq-eqb, cond, refl, sym, ap, ◌∙◌, arith, length-append}
+use Rattle.std.proofs.Common.{◌≡◌, ◌⊎◌, ℕ, ◌+◌, ◌*◌, ◌<◌, ◌≤◌, ◌^◌, ◌==◌, ◌||◌, not, true, List, [], ◌∷◌, ◌++◌, length, take, drop, Option, Some, None, inl, inr, eq-eqb, cond, refl, sym, ap, ◌∙◌, arith, length-append}
 use Rattle.std.proofs.lemmas.List.{take-append-drop, take_at, drop_at}
 use Rattle.base_model.specs.Bytes.{part, number_at, little, spelled, AreBytes}
 use Rattle.base_model.proofs.BytesLemmas.{length-spelled, part-append, part-whole, part-append_left, part-append_right, little-spelled, spelled-number_at, number_at-lt}
 use Rattle.apei_tables.specs.declared.headers.Header.{Header}
+use Rattle.apei_tables.specs.declared.headers.TableError.{TableError}
 use Rattle.apei_tables.specs.Layout.{spelling as header_spelling}
 use Rattle.apei_tables.specs.Tables.{IsTable, FindsTable}
 use Rattle.apei_tables.proofs.Finding.{size-front, part-front, none_refused}
 use Rattle.apei_tables.proofs.Spelling.{same_header, length-spelling, has_sizes}
 use Rattle.erst_entries.specs.declared.entries.Entry.{Entry}
-use Rattle.erst_entries.specs.declared.tables.ErstError.TheVariants.{HeaderSize}
+use Rattle.erst_entries.specs.declared.tables.ErstError.{ErstError}
+use Rattle.erst_entries.specs.declared.tables.ErstError.TheVariants.{Table, HeaderSize, Count}
 use Rattle.erst_entries.specs.Layout.{Erst, FitsErst, AreEntries, entry_spelling, entries_spelling, front_spelling, spelling}
 use Rattle.erst_entries.specs.Tables.{IsErst, AreRead, FindsErst, signature, refusal}
 use Rattle.erst_entries.proofs.EntryBytes.{length-entry, same_entry}
@@ -82,6 +84,15 @@ read-front erst bytes table rest at n x same is room there small =
 pub is_table : (erst : Erst) (table : List ℕ) → FitsErst erst → IsErst erst table → IsTable erst.header table
 is_table erst table fits is = record { sealed = is.sealed; begins = ap (λ (xs : List ℕ). part xs 0 36) is.spelled ∙ front-header erst fits }
 
+-- what is refused of bytes, by what is refused of their table's header
+abbrev refusal_after : List ℕ → Option TableError → Option ErstError
+refusal_after bytes (Some error) = Some (Table error)
+refusal_after bytes None =
+    let size = number_at bytes 36 4 in
+    let count = number_at bytes 44 4 in
+    let all = number_at bytes 4 4 in
+    cond (not ((size == 48) || (size == 12))) (Some (HeaderSize size)) (cond (not (all == 48 + 32 * count)) (Some (Count count all)) None)
+
 -- nothing is refused where such a table stands first
 pub not_refused : (erst : Erst) (bytes table rest : List ℕ) → bytes ≡ table ++ rest → FitsErst erst → IsErst erst table → refusal bytes ≡ None
 not_refused erst bytes table rest same fits is =
@@ -95,7 +106,7 @@ not_refused erst bytes table rest same fits is =
     let count : number_at bytes 44 4 ≡ erst.count = read-front erst bytes table rest 44 4 erst.count same is.spelled (omega arith) (front-count erst fits) small_count in
     let long : number_at bytes 4 4 ≡ 48 + 32 * erst.count = size-front bytes table rest same is.sealed ∙ all ∙ ap (λ (n : ℕ). 48 + 32 * n) counted in
     let right : ((48 + 32 * erst.count) == (48 + 32 * erst.count)) ≡ true = eq-eqb (48 + 32 * erst.count) (48 + 32 * erst.count) refl in
-    rw (none, size, count, long, right) (either erst.header_size is.size) where
+    ap (refusal_after bytes) none ∙ rw (size, count, long, right) (either erst.header_size is.size) where
       either : (n : ℕ) → (n ≡ 48) ⊎ (n ≡ 12) → cond (not ((n == 48) || (n == 12))) (Some (HeaderSize n)) None ≡ None
       either n (inl e) = rw e refl
       either n (inr e) = rw e refl

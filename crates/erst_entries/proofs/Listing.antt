@@ -5,7 +5,7 @@ use Rattle.std.proofs.lemmas.Bool.Decides.{eqb_tells}
 use Rattle.std.proofs.lemmas.List.Sums.{length-filter}
 use Rattle.std.proofs.lemmas.List.Elements.{filter-append}
 use Rattle.erst_entries.specs.declared.entries.Entry.{Entry}
-use Rattle.erst_entries.specs.Programs.{has_action, entries_of}
+use Rattle.erst_entries.specs.Programs.{entries_of}
 
 tells : (b : Bool) → (b ≡ true) ⊎ (b ≡ false)
 tells true = inl refl
@@ -54,7 +54,7 @@ pub entries_of-front : (action n : ℕ) (entries : List Entry) → length (entri
 unfolding entries_of
 entries_of-front action n entries all =
     let split : entries_of action entries ≡ entries_of action (take n entries) ++ entries_of action (drop n entries) =
-    ap (entries_of action) (sym (take-append-drop n entries)) ∙ filter-append (has_action action) (take n entries) (drop n entries) in
+    ap (entries_of action) (sym (take-append-drop n entries)) ∙ filter-append (λ (entry : Entry). entry.action == action) (take n entries) (drop n entries) in
     let none : length (entries_of action (drop n entries)) ≡ 0 = omega (arith, ap length split, length-append (entries_of action (take n entries)) (entries_of action (drop n entries))) in
     sym (split ∙ ap (λ (xs : List Entry). entries_of action (take n entries) ++ xs) (no_length (entries_of action (drop n entries)) none) ∙ append-nil (entries_of action (take n entries))) where
       no_length : (xs : List Entry) → length xs ≡ 0 → xs ≡ []
@@ -114,9 +114,9 @@ skip-next action entries i d h other =
     sym (ap (entries_of action) (drop-next entries i d h) ∙ entries_of-cons_other action (get_or entries i d) (drop (i + 1) entries) other)
 
 -- how many they are
-pub length_entries_of : (action : ℕ) (entries : List Entry) → length (entries_of action entries) ≡ count_by (has_action action) entries
+pub length_entries_of : (action : ℕ) (entries : List Entry) → length (entries_of action entries) ≡ count_by (λ (entry : Entry). entry.action == action) entries
 unfolding entries_of
-length_entries_of action entries = length-filter (has_action action) entries
+length_entries_of action entries = length-filter (λ (entry : Entry). entry.action == action) entries
 
 pub same_test : (a b : ℕ) → a ≡ b → (a == b) ≡ true
 same_test a b h = eq-eqb a b h

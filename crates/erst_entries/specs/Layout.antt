@@ -6,14 +6,10 @@ use Rattle.apei_tables.specs.declared.headers.Header.{Header}
 use Rattle.apei_tables.specs.Layout.{spelling as header_spelling, IsHeader}
 use Rattle.erst_entries.specs.declared.entries.Entry.{Entry}
 
--- action, instruction, flags and reserved byte; the register region; value; mask
-abbrev pub entry_fields : Entry → List (List ℕ)
-entry_fields entry =
-    (entry.action ∷ entry.code ∷ entry.flags ∷ entry.spare ∷ []) ∷ gas_spelling entry.region ∷ spelled 8 entry.value ∷ spelled 8 entry.mask ∷ []
-
--- one after another, 32 bytes
+-- an entry's 32 bytes: action, instruction, flags and reserved byte; the register region; value; mask
 unfoldable pub entry_spelling : Entry → List ℕ
-entry_spelling entry = joined (entry_fields entry)
+entry_spelling entry = joined (
+    (entry.action ∷ entry.code ∷ entry.flags ∷ entry.spare ∷ []) ∷ gas_spelling entry.region ∷ spelled 8 entry.value ∷ spelled 8 entry.mask ∷ [])
 
 -- each number of an entry fits its field
 pub record IsEntry (entry : Entry) : Type 0 where

@@ -1,13 +1,10 @@
 -- The program of an action.
-use Rattle.std.specs.Prelude.{ℕ, Bool, ◌==◌, List, filter}
+use Rattle.std.specs.Prelude.{ℕ, ◌==◌, List, filter}
 use Rattle.erst_entries.specs.declared.entries.Entry.{Entry}
-
-abbrev pub has_action : ℕ → Entry → Bool
-has_action action entry = entry.action == action
 
 -- those entries that have the action, in their order
 unfoldable pub entries_of : ℕ → List Entry → List Entry
-entries_of action entries = filter (has_action action) entries
+entries_of action entries = filter (λ entry. entry.action == action) entries
 
 -- an action, and its entries
 pub record Listed : Type 0 where

@@ -2,7 +2,6 @@
 use Rattle.std.specs.Prelude.{◌≡◌, ℕ, ◌+◌, ◌*◌, ◌⊎◌, ◌==◌, ◌||◌, not, if◌then◌else◌, List, [], ◌∷◌, length, Option, Some, None, Result, MatchResult}
 use Rattle.base_model.specs.Bytes.{part, number_at}
 use Rattle.apei_tables.specs.declared.headers.Header.{Header}
-use Rattle.apei_tables.specs.declared.headers.TableError.{TableError}
 use Rattle.apei_tables.specs.Tables.{IsSealed, FindsTable, refusal as table_refusal}
 use Rattle.erst_entries.specs.declared.entries.Entry.{Entry}
 use Rattle.erst_entries.specs.declared.tables.ErstError.{ErstError}
@@ -21,23 +20,19 @@ pub record IsErst (erst : Erst) (table : List ℕ) : Type 0 where
   pub size : (erst.header_size ≡ 48) ⊎ (erst.header_size ≡ 12)
   pub counted : length erst.entries ≡ erst.count
 
--- the first reason why a sealed table of this signature is no such table
-abbrev pub own_refusal : List ℕ → Option ErstError
-own_refusal bytes =
+-- the first reason why bytes don't begin with such a table: that of any table, the header size, or a count that the length doesn't have
+abbrev pub refusal : List ℕ → Option ErstError
+refusal bytes =
     let size = number_at bytes 36 4 in
     let count = number_at bytes 44 4 in
     let all = number_at bytes 4 4 in
-    if not (size == 48 || size == 12) then Some (HeaderSize size)
-    else (if not (all == 48 + 32 * count) then Some (Count count all)
-    else None)
-
-abbrev pub refusal_after : Option TableError → List ℕ → Option ErstError
-refusal_after (Some error) bytes = Some (Table error)
-refusal_after None bytes = own_refusal bytes
-
--- the first reason why bytes don't begin with such a table
-abbrev pub refusal : List ℕ → Option ErstError
-refusal bytes = refusal_after (table_refusal signature 48 bytes) bytes
+    elim (table_refusal signature 48 bytes) [
+      | Some error ↦ Some (Table error)
+      | None ↦
+          if not (size == 48 || size == 12) then Some (HeaderSize size)
+          else if not (all == 48 + 32 * count) then Some (Count count all)
+          else None
+    ]
 
 -- such a table stands first, and this is its header
 pub record FindsErst (bytes : List ℕ) (header : Header) (table : List ℕ) : Type 0 where

@@ -1,6 +1,6 @@
 // The entries of one action, in table order.
 ghost use Rattle.std.specs.Prelude.{◌≡◌, ◌^◌, ◌<◌, ◌≤◌, ◌↔◌, IsTrue, Some, slice_get, length, drop, count_by};
-ghost use Rattle.erst_entries.specs.Programs.{program_of, entries_of, has_action};
+ghost use Rattle.erst_entries.specs.Programs.{program_of, entries_of};
 
 use crate::entries::Entry;
 use std::marker::Model;

@@ -1,3 +1,4 @@
+pub mod Moments
 pub mod Configurations
 pub mod Instructions
 pub mod Works

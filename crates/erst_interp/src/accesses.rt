@@ -1,6 +1,6 @@
 // Reads and stores of a register's field.
 ghost use Rattle.std.specs.Prelude.{◌≡◌, ◌<◌, ℕ, Ok};
-ghost use Rattle.erst_interp.specs.Accesses.{FieldRead, Store};
+ghost use Rattle.erst_interp.specs.Accesses.{FieldRead, StoreInto};
 
 use apei_space::{Space, SpaceFault};
 use apei_tables::Register;
@@ -36,7 +36,7 @@ pub fn store<S: Space>(
     space: &mut S,
 ) -> Result<(), SpaceFault>
     requires { register.now.offset < 64 }
-    ensures { Store S.allows register.now entry.now value (S.state space.old) result (S.state space.new) }
+    ensures { StoreInto S.allows (register.now, entry.now) value (S.state space.old) result (S.state space.new) }
 {
     if entry.flags & PRESERVE_REGISTER == 0 {
         let number = register.stored(value, entry.mask);

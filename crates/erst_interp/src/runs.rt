@@ -2,6 +2,7 @@
 ghost use Rattle.std.specs.Prelude.{◌≡◌, ◌<◌, ◌≤◌, ℕ, false, Err, OnOk};
 ghost use Rattle.base_model.specs.Faults.{Rose};
 ghost use Rattle.apei_space.specs.Accesses.{Reaches};
+ghost use Rattle.erst_interp.specs.Moments.{Between, moment};
 ghost use Rattle.erst_interp.specs.Runs.{Run, may_be_empty};
 
 use crate::budgets::Budget;
@@ -20,7 +21,8 @@ pub fn run<S: Space>(
     budget: &mut Budget,
     space: &mut S,
 ) -> Result<u64, RunStop>
-    ensures run { Run S.allows program.now given budget.old (S.state space.old) result budget.new (S.state space.new) }
+    ensures run { Between (Run S.allows program.now given) (moment budget.old (S.state space.old)) result
+        (moment budget.new (S.state space.new)) }
 
     // So it is accesses one after another, only spends steps, and answers a device's fault only where the space's count
     // of faults rose.
@@ -42,7 +44,8 @@ fn walk<S: Space>(
     budget: &mut Budget,
     space: &mut S,
 ) -> Result<u64, RunStop>
-    ensures { Run S.allows program.now given budget.old (S.state space.old) result budget.new (S.state space.new) }
+    ensures { Between (Run S.allows program.now given) (moment budget.old (S.state space.old)) result
+        (moment budget.new (S.state space.new)) }
 {
     let len = program.len();
     let action = program.action();

@@ -3,6 +3,7 @@ ghost use Rattle.std.specs.Prelude.{◌≡◌, ◌<◌, ◌^◌, Ok, IfOk, IfErr
 ghost use Rattle.apei_tables.specs.Check.{checked};
 ghost use Rattle.erst_interp.specs.Instructions.{StoreValue, CompareField, MoveBytes, HasWork};
 ghost use Rattle.erst_interp.specs.Works.{use_meaning};
+ghost use Rattle.erst_interp.specs.Moments.{Between, moment};
 ghost use Rattle.erst_interp.specs.Steps.{Executes, Attempts, GoesTo, Waited};
 ghost use Rattle.erst_interp.specs.Settled.{IsBadRegister, settled};
 
@@ -26,7 +27,8 @@ pub fn execute<S: Space>(
     space: &mut S,
 ) -> Result<Configuration, RunStop>
     requires { task.now.at.place < 2 ^ 63 }
-    ensures { Executes S.allows task.now budget.old (S.state space.old) result budget.new (S.state space.new) }
+    ensures { Between (Executes S.allows task.now) (moment budget.old (S.state space.old)) result
+        (moment budget.new (S.state space.new)) }
 {
     let index = task.at.place as u64;
     let Some(instruction) = Instruction::of(task.entry.code) else {
@@ -190,7 +192,8 @@ fn move_data<S: Space>(
     requires work { HasWork task.now MoveBytes }
     requires register { checked task.now.entry.region ≡ Ok register.now }
     requires offset { register.now.offset < 64 }
-    ensures { Executes S.allows task.now budget.old (S.state space.old) result budget.new (S.state space.new) }
+    ensures { Between (Executes S.allows task.now) (moment budget.old (S.state space.old)) result
+        (moment budget.new (S.state space.new)) }
 {
     let index = task.at.place as u64;
     let len = task.at.var2;

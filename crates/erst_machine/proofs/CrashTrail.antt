@@ -7,7 +7,6 @@ use Rattle.base_model.specs.Layout.{Layout}
 use Rattle.base_model.proofs.CrashLemmas.{IsLater-refl, IsLater-then, past_grows, image_at-later, image_at-now, CrashImage-earlier, CrashImage-now, Leaves-none, Leaves-weaker, Leaves-exit}
 use Rattle.record_model.specs.Records.{Stored}
 use Rattle.record_store.specs.Store.{StoreView, DividesAlike, records_of as records_in}
-use Rattle.apei_tables.specs.declared.widths.Width.{Width}
 use Rattle.apei_tables.specs.Access.{bits}
 use Rattle.apei_space.specs.declared.faults.SpaceFault.{SpaceFault}
 use Rattle.apei_space.specs.Calls.{Call, Read, Write, Wait, Copy, ReadBytes, WriteBytes}
@@ -27,7 +26,7 @@ use Rattle.erst_machine.specs.declared.areas.Register.TheVariants.{Action, Value
 use Rattle.erst_machine.specs.Areas.{register_at}
 use Rattle.erst_machine.specs.Memories.{MemoryState}
 use Rattle.erst_machine.specs.MachineState.{MachineState, IsMachine, location_of, location_at, records_of, told_of}
-use Rattle.erst_machine.specs.Allowed.{RegisterWritten, AreaWritten, NumberWritten, area_stored, bytes_stored, copied_to, copied_from, copied, Allows}
+use Rattle.erst_machine.specs.Allowed.{NumberWrite, write_of, RegisterWritten, AreaWritten, NumberWritten, area_stored, bytes_stored, copied_to, copied_from, copied, Allows}
 use Rattle.erst_machine.specs.Events.{store_answer, Restarts, Event, Accessed, Warmed, Powered, Submitted, Turned, Laid, Submits, Happens}
 use Rattle.erst_machine.specs.Shown.{changes_of, shown_by, Shows, ShowsEach, made_at_register, made_in, made_at, made_by_call, made_by_event, GoesOn, IsShown, IsOneMove}
 use Rattle.erst_machine.proofs.KeptLemmas.{kept_allowed}
@@ -53,32 +52,32 @@ still old new same = subst
 by_state : (old new other : MachineState) → new ≡ other → other.device.store ≡ old.device.store → IsOneMove old (records_of old) new
 by_state old new other is same = still old new (ap (λ (s : MachineState). s.device.store) is ∙ same)
 
-of_register : (tells : Type 0) (told : tells) (register : Register) (old new : MachineState) (at : ℕ) (width : Width) (value : ℕ) (answer : Result (Unit {0}) SpaceFault) →
-    RegisterWritten tells register old at width value answer new → IsOneMove old (made_at_register register old (value % 2 ^ 32)) new
-of_register tells told Action old new at width value answer h = record {
+of_register : (tells : Type 0) (told : tells) (register : Register) (old new : MachineState) (write : NumberWrite) →
+    RegisterWritten tells register old write new → IsOneMove old (made_at_register register old (write.value % 2 ^ 32)) new
+of_register tells told Action old new write h = record {
   leaves = h.1.effect.crash told;
   made_is = h.1.effect.made told;
   few = h.1.effect.few told;
   never_falls = h.1.effect.never_falls;
   equivalent = h.1.effect.equivalent;
 }
-of_register tells told Value old new at width value answer h = by_state old new _ h.1 refl
-of_register tells told NoRegister old new at width value answer h = by_state old new _ h.1 refl
+of_register tells told Value old new write h = by_state old new _ h.1 refl
+of_register tells told NoRegister old new write h = by_state old new _ h.1 refl
 
-of_area : (tells : Type 0) (told : tells) (area : Area) (start : ℕ) (old new : MachineState) (at : ℕ) (width : Width) (value : ℕ) (answer : Result (Unit {0}) SpaceFault) →
-    AreaWritten tells area start old at width value answer new → IsOneMove old (made_in area start old width (value % 2 ^ 32)) new
-of_area tells told Device start old new at width value answer h = of_register tells told (register_at start width) old new at width value answer h
-of_area tells told Scratch start old new at width value answer h = by_state old new _ h.1 refl
-of_area tells told LogRange start old new at width value answer h = by_state old new _ h.1 refl
-of_area tells told Handover start old new at width value answer h = by_state old new _ h.1 refl
-of_area tells told BootErrors start old new at width value answer h = by_state old new _ h.1 refl
-of_area tells told Ports start old new at width value answer h = by_state old new _ h.1 refl
+of_area : (tells : Type 0) (told : tells) (area : Area) (start : ℕ) (old new : MachineState) (write : NumberWrite) →
+    AreaWritten tells area start old write new → IsOneMove old (made_in area start old write.width (write.value % 2 ^ 32)) new
+of_area tells told Device start old new write h = of_register tells told (register_at start write.width) old new write h
+of_area tells told Scratch start old new write h = by_state old new _ h.1 refl
+of_area tells told LogRange start old new write h = by_state old new _ h.1 refl
+of_area tells told Handover start old new write h = by_state old new _ h.1 refl
+of_area tells told BootErrors start old new write h = by_state old new _ h.1 refl
+of_area tells told Ports start old new write h = by_state old new _ h.1 refl
 
-of_write : (tells : Type 0) (told : tells) (location : Location) (old new : MachineState) (at : ℕ) (width : Width) (value : ℕ) (answer : Result (Unit {0}) SpaceFault) →
-    NumberWritten tells location old at width value answer new → IsOneMove old (made_at location old width (value % 2 ^ 32)) new
-of_write tells told (Inside area start) old new at width value answer h = of_area tells told area start old new at width value answer h
-of_write tells told (Beyond area address) old new at width value answer h = by_state old new _ h.1 refl
-of_write tells told (Nowhere address) old new at width value answer h = by_state old new _ h.1 refl
+of_write : (tells : Type 0) (told : tells) (location : Location) (old new : MachineState) (write : NumberWrite) →
+    NumberWritten tells location old write new → IsOneMove old (made_at location old write.width (write.value % 2 ^ 32)) new
+of_write tells told (Inside area start) old new write h = of_area tells told area start old new write h
+of_write tells told (Beyond area address) old new write h = by_state old new _ h.1 refl
+of_write tells told (Nowhere address) old new write h = by_state old new _ h.1 refl
 
 area_store : (area : Area) (start : ℕ) (old : MachineState) (at : ℕ) (bytes : List ℕ) → (area_stored area start old at bytes).1.device.store ≡ old.device.store
 area_store Device start old at bytes = refl
@@ -106,7 +105,7 @@ copied_store None None source target old n = copied_to_store target old (copied_
 -- each access of the machine
 pub one_access : (tells : Type 0) (told : tells) (old : MachineState) (call : Call) (new : MachineState) → Allows tells old call new → IsOneMove old (made_by_call old call) new
 one_access tells told old (Read at width answer) new h = by_state old new _ h.1 refl
-one_access tells told old (Write at width value answer) new h = of_write tells told (location_of old at (bits width / 8)) old new (address_of at) width value answer h
+one_access tells told old (Write at width value answer) new h = of_write tells told (location_of old at (bits width / 8)) old new (write_of (address_of at) width value answer) h
 one_access tells told old (Wait micros) new h = by_state old new _ h refl
 one_access tells told old (Copy from to n answer) new h = by_state old new _ h.1 (copied_store _ _ (location_at old from n) (location_at old to n) old n)
 one_access tells told old (ReadBytes at before after answer) new h = by_state old new _ h.2 refl

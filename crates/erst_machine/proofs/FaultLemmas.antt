@@ -1,9 +1,7 @@
 -- What no access lowers: the flash's count of faults.
-use Rattle.std.proofs.Common.{◌≡◌, ℕ, ◌≤◌, ◌/◌, length, Result, refl, sym, ap, subst, ◌∙◌, arith}
+use Rattle.std.proofs.Common.{◌≡◌, ℕ, ◌≤◌, ◌/◌, length, refl, sym, ap, subst, ◌∙◌, arith}
 use Rattle.record_store.specs.Store.{StoreView}
-use Rattle.apei_tables.specs.declared.widths.Width.{Width}
 use Rattle.apei_tables.specs.Access.{bits}
-use Rattle.apei_space.specs.declared.faults.SpaceFault.{SpaceFault}
 use Rattle.apei_space.specs.Calls.{Call, Read, Write, Wait, Copy, ReadBytes, WriteBytes}
 use Rattle.apei_space.specs.Accesses.{Reaches, Stays, Goes}
 use Rattle.apei_space.specs.Windows.{address_of}
@@ -15,7 +13,7 @@ use Rattle.erst_machine.specs.declared.areas.Register.{Register}
 use Rattle.erst_machine.specs.declared.areas.Register.TheVariants.{Action, Value, NoRegister}
 use Rattle.erst_machine.specs.Areas.{register_at}
 use Rattle.erst_machine.specs.MachineState.{MachineState, location_of, location_at}
-use Rattle.erst_machine.specs.Allowed.{RegisterWritten, AreaWritten, NumberWritten, Allows}
+use Rattle.erst_machine.specs.Allowed.{NumberWrite, write_of, RegisterWritten, AreaWritten, NumberWritten, Allows}
 use Rattle.erst_machine.proofs.CrashTrail.{stored_store, copied_store}
 
 abbrev NeverFalls : MachineState → MachineState → Type 0
@@ -26,30 +24,30 @@ by_state : (old new other : MachineState) → new ≡ other → other.device.sto
 by_state old new other is same =
     subst (λ (s : StoreView). old.device.store.flash.faults ≤ s.flash.faults) (sym (ap (λ (m : MachineState). m.device.store) is ∙ same)) (omega arith)
 
-of_register : (tells : Type 0) (register : Register) (old new : MachineState) (at : ℕ) (width : Width) (value : ℕ) (answer : Result (Unit {0}) SpaceFault) →
-    RegisterWritten tells register old at width value answer new → NeverFalls old new
-of_register tells Action old new at width value answer h = h.1.effect.never_falls
-of_register tells Value old new at width value answer h = by_state old new _ h.1 refl
-of_register tells NoRegister old new at width value answer h = by_state old new _ h.1 refl
+of_register : (tells : Type 0) (register : Register) (old new : MachineState) (write : NumberWrite) →
+    RegisterWritten tells register old write new → NeverFalls old new
+of_register tells Action old new write h = h.1.effect.never_falls
+of_register tells Value old new write h = by_state old new _ h.1 refl
+of_register tells NoRegister old new write h = by_state old new _ h.1 refl
 
-of_area : (tells : Type 0) (area : Area) (start : ℕ) (old new : MachineState) (at : ℕ) (width : Width) (value : ℕ) (answer : Result (Unit {0}) SpaceFault) →
-    AreaWritten tells area start old at width value answer new → NeverFalls old new
-of_area tells Device start old new at width value answer h = of_register tells (register_at start width) old new at width value answer h
-of_area tells Scratch start old new at width value answer h = by_state old new _ h.1 refl
-of_area tells LogRange start old new at width value answer h = by_state old new _ h.1 refl
-of_area tells Handover start old new at width value answer h = by_state old new _ h.1 refl
-of_area tells BootErrors start old new at width value answer h = by_state old new _ h.1 refl
-of_area tells Ports start old new at width value answer h = by_state old new _ h.1 refl
+of_area : (tells : Type 0) (area : Area) (start : ℕ) (old new : MachineState) (write : NumberWrite) →
+    AreaWritten tells area start old write new → NeverFalls old new
+of_area tells Device start old new write h = of_register tells (register_at start write.width) old new write h
+of_area tells Scratch start old new write h = by_state old new _ h.1 refl
+of_area tells LogRange start old new write h = by_state old new _ h.1 refl
+of_area tells Handover start old new write h = by_state old new _ h.1 refl
+of_area tells BootErrors start old new write h = by_state old new _ h.1 refl
+of_area tells Ports start old new write h = by_state old new _ h.1 refl
 
-of_write : (tells : Type 0) (location : Location) (old new : MachineState) (at : ℕ) (width : Width) (value : ℕ) (answer : Result (Unit {0}) SpaceFault) →
-    NumberWritten tells location old at width value answer new → NeverFalls old new
-of_write tells (Inside area start) old new at width value answer h = of_area tells area start old new at width value answer h
-of_write tells (Beyond area address) old new at width value answer h = by_state old new _ h.1 refl
-of_write tells (Nowhere address) old new at width value answer h = by_state old new _ h.1 refl
+of_write : (tells : Type 0) (location : Location) (old new : MachineState) (write : NumberWrite) →
+    NumberWritten tells location old write new → NeverFalls old new
+of_write tells (Inside area start) old new write h = of_area tells area start old new write h
+of_write tells (Beyond area address) old new write h = by_state old new _ h.1 refl
+of_write tells (Nowhere address) old new write h = by_state old new _ h.1 refl
 
 of_access : (tells : Type 0) (old : MachineState) (call : Call) (new : MachineState) → Allows tells old call new → NeverFalls old new
 of_access tells old (Read at width answer) new h = by_state old new _ h.1 refl
-of_access tells old (Write at width value answer) new h = of_write tells (location_of old at (bits width / 8)) old new (address_of at) width value answer h
+of_access tells old (Write at width value answer) new h = of_write tells (location_of old at (bits width / 8)) old new (write_of (address_of at) width value answer) h
 of_access tells old (Wait micros) new h = by_state old new _ h refl
 of_access tells old (Copy from to n answer) new h = by_state old new _ h.1 (copied_store _ _ (location_at old from n) (location_at old to n) old n)
 of_access tells old (ReadBytes at before after answer) new h = by_state old new _ h.2 refl

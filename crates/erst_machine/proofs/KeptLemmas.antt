@@ -32,7 +32,7 @@ use Rattle.erst_machine.specs.declared.areas.Register.TheVariants.{Action, Value
 use Rattle.erst_machine.specs.Areas.{base_of, size_of, within, holds, first_location, memory_areas, place_location, IsPlaced, register_at}
 use Rattle.erst_machine.specs.Memories.{MemoryState, bytes_in, IsLaid, zeros, cleared}
 use Rattle.erst_machine.specs.MachineState.{MachineState, IsMachine, location_of, location_at}
-use Rattle.erst_machine.specs.Allowed.{RegisterWritten, AreaWritten, NumberWritten, ActsOn, put_in, area_stored, bytes_stored, copied_from, copied_to, copied, copy_of, Allows}
+use Rattle.erst_machine.specs.Allowed.{NumberWrite, write_of, RegisterWritten, AreaWritten, NumberWritten, ActsOn, put_in, area_stored, bytes_stored, copied_from, copied_to, copied, copy_of, Allows}
 
 -- an access that is found in an area lies within it
 within_placed : (reach : ℕ) (area : Area) (at n : ℕ) (ends : Bool) → nat_le (at + n) (base_of area + size_of reach area) ≡ ends → base_of area ≤ at →
@@ -111,12 +111,12 @@ kept_put Ports start old bytes fits machine =
       stands = machine.stands;
     }
 
-kept_register : (tells : Type 0) (register : Register) (old new : MachineState) (at : ℕ) (width : Width) (value : ℕ) (answer : Result (Unit {0}) SpaceFault) →
-    RegisterWritten tells register old at width value answer new → IsMachine old → IsMachine new
-kept_register tells Action old new at width value answer h machine = kept_acts tells old new _ h.1 machine
-kept_register tells Value old new at width value answer h machine =
+kept_register : (tells : Type 0) (register : Register) (old new : MachineState) (write : NumberWrite) →
+    RegisterWritten tells register old write new → IsMachine old → IsMachine new
+kept_register tells Action old new write h machine = kept_acts tells old new _ h.1 machine
+kept_register tells Value old new write h machine =
     kept_same _ new h.1 (record { sizes = machine.sizes; laid = machine.laid; map = machine.map; stands = machine.stands })
-kept_register tells NoRegister old new at width value answer h machine = kept_same old new h.1 machine
+kept_register tells NoRegister old new write h machine = kept_same old new h.1 machine
 
 kept_number_put : (area : Area) (start : ℕ) (old new : MachineState) (width : Width) (value : ℕ) → new ≡ put_in area start old (spelled (bits width / 8) value) →
     start + bits width / 8 ≤ size_of (length old.memory.range) area → IsMachine old → IsMachine new
@@ -124,20 +124,20 @@ kept_number_put area start old new width value is fits machine =
     let long : length (spelled (bits width / 8) value) ≡ bits width / 8 = length-spelled (bits width / 8) value in
     kept_same _ new is (kept_put area start old (spelled (bits width / 8) value) (omega arith) machine)
 
-kept_area : (tells : Type 0) (area : Area) (start : ℕ) (old new : MachineState) (at : ℕ) (width : Width) (value : ℕ) (answer : Result (Unit {0}) SpaceFault) →
-    AreaWritten tells area start old at width value answer new → start + bits width / 8 ≤ size_of (length old.memory.range) area → IsMachine old → IsMachine new
-kept_area tells Device start old new at width value answer h fits machine = kept_register tells (register_at start width) old new at width value answer h machine
-kept_area tells Handover start old new at width value answer h fits machine = kept_same old new h.1 machine
-kept_area tells BootErrors start old new at width value answer h fits machine = kept_same old new h.1 machine
-kept_area tells Scratch start old new at width value answer h fits machine = kept_number_put Scratch start old new width value h.1 fits machine
-kept_area tells LogRange start old new at width value answer h fits machine = kept_number_put LogRange start old new width value h.1 fits machine
-kept_area tells Ports start old new at width value answer h fits machine = kept_number_put Ports start old new width value h.1 fits machine
+kept_area : (tells : Type 0) (area : Area) (start : ℕ) (old new : MachineState) (write : NumberWrite) →
+    AreaWritten tells area start old write new → start + bits write.width / 8 ≤ size_of (length old.memory.range) area → IsMachine old → IsMachine new
+kept_area tells Device start old new write h fits machine = kept_register tells (register_at start write.width) old new write h machine
+kept_area tells Handover start old new write h fits machine = kept_same old new h.1 machine
+kept_area tells BootErrors start old new write h fits machine = kept_same old new h.1 machine
+kept_area tells Scratch start old new write h fits machine = kept_number_put Scratch start old new write.width write.value h.1 fits machine
+kept_area tells LogRange start old new write h fits machine = kept_number_put LogRange start old new write.width write.value h.1 fits machine
+kept_area tells Ports start old new write h fits machine = kept_number_put Ports start old new write.width write.value h.1 fits machine
 
-pub kept_written : (tells : Type 0) (location : Location) (old new : MachineState) (at : ℕ) (width : Width) (value : ℕ) (answer : Result (Unit {0}) SpaceFault) →
-    NumberWritten tells location old at width value answer new → IsPlaced (length old.memory.range) (bits width / 8) location → IsMachine old → IsMachine new
-kept_written tells (Inside area start) old new at width value answer h fits machine = kept_area tells area start old new at width value answer h fits machine
-kept_written tells (Beyond area address) old new at width value answer h fits machine = kept_same old new h.1 machine
-kept_written tells (Nowhere address) old new at width value answer h fits machine = kept_same old new h.1 machine
+pub kept_written : (tells : Type 0) (location : Location) (old new : MachineState) (write : NumberWrite) →
+    NumberWritten tells location old write new → IsPlaced (length old.memory.range) (bits write.width / 8) location → IsMachine old → IsMachine new
+kept_written tells (Inside area start) old new write h fits machine = kept_area tells area start old new write h fits machine
+kept_written tells (Beyond area address) old new write h fits machine = kept_same old new h.1 machine
+kept_written tells (Nowhere address) old new write h fits machine = kept_same old new h.1 machine
 
 kept_area_stored : (area : Area) (start : ℕ) (old : MachineState) (at : ℕ) (bytes : List ℕ) → start + length bytes ≤ size_of (length old.memory.range) area → IsMachine old →
     IsMachine (area_stored area start old at bytes).1
@@ -174,7 +174,7 @@ kept_copied None None source target old n fits machine = kept_copied_to target o
 pub kept_allowed : (tells : Type 0) (old new : MachineState) (call : Call) → Allows tells old call new → IsMachine old → IsMachine new
 kept_allowed tells old new (Read at width answer) h machine = kept_same old new h.1 machine
 kept_allowed tells old new (Write at width value answer) h machine =
-    kept_written tells (location_of old at (bits width / 8)) old new (address_of at) width value answer h (location_placed (length old.memory.range) at (bits width / 8)) machine
+    kept_written tells (location_of old at (bits width / 8)) old new (write_of (address_of at) width value answer) h (location_placed (length old.memory.range) at (bits width / 8)) machine
 kept_allowed tells old new (Wait micros) h machine = kept_same _ new h (record { sizes = machine.sizes; laid = machine.laid; map = machine.map; stands = machine.stands })
 kept_allowed tells old new (Copy from to n answer) h machine =
     kept_same _ new h.1 (kept_copied _ _ (location_at old from n) (location_at old to n) old n (location_placed (length old.memory.range) (Memory to) n) machine)
@@ -200,10 +200,10 @@ kept_turn old side event handover shared machine map windows turns = record {
 }
 
 -- the same of a machine that is seen as a state
-pub kept_written_at : (tells : Type 0) (location : Location) (old seen new : MachineState) (at n : ℕ) (width : Width) (value : ℕ) (answer : Result (Unit {0}) SpaceFault) → old ≡ seen → n ≡ bits width / 8 →
-    NumberWritten tells location old at width value answer new → IsPlaced (length seen.memory.range) n location → IsMachine old → IsMachine new
-kept_written_at tells location old seen new at n width value answer same size h placed machine =
-    kept_written tells location old new at width value answer h
+pub kept_written_at : (tells : Type 0) (location : Location) (old seen new : MachineState) (n : ℕ) (write : NumberWrite) → old ≡ seen → n ≡ bits write.width / 8 →
+    NumberWritten tells location old write new → IsPlaced (length seen.memory.range) n location → IsMachine old → IsMachine new
+kept_written_at tells location old seen new n write same size h placed machine =
+    kept_written tells location old new write h
     (subst (λ (k : ℕ). IsPlaced (length old.memory.range) k location) size (subst (λ (s : MachineState). IsPlaced (length s.memory.range) n location) (sym same) placed)) machine
 
 pub kept_stored_at : (location : Location) (old seen new : MachineState) (at : ℕ) (bytes : List ℕ) → old ≡ seen → new ≡ (bytes_stored location old at bytes).1 →

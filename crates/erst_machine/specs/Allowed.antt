@@ -48,26 +48,36 @@ pub record ActsOn (tells : Type 0) (old : MachineState) (code : ℕ) (new : Mach
   pub handover : new.handover ≡ old.handover
   pub waited : new.waited ≡ old.waited
 
-abbrev pub RegisterWritten : Type 0 → Register → MachineState → ℕ → Width → ℕ → Result (Unit {0}) SpaceFault → MachineState → Type 0
-RegisterWritten tells Action old at width value answer new = (answer ≡ Ok tt) × ActsOn tells old (value % 2 ^ 32) new
-RegisterWritten tells Value old at width value answer new = (answer ≡ Ok tt) × (new ≡ record old { device = record old.device { value = value } })
-RegisterWritten tells NoRegister old at width value answer new = (answer ≡ Err (BadAccess at width)) × (new ≡ old)
+-- a write of a number, and what it answered
+pub record NumberWrite : Type 0 where
+  pub at : ℕ
+  pub width : Width
+  pub value : ℕ
+  pub answer : Result (Unit {0}) SpaceFault
+
+abbrev pub write_of : (at : ℕ) → Width → (value : ℕ) → Result (Unit {0}) SpaceFault → NumberWrite
+write_of at width value answer = record { at = at; width = width; value = value; answer = answer }
+
+-- before, a write of a number, after
+abbrev pub RegisterWritten : Type 0 → Register → MachineState → NumberWrite → MachineState → Type 0
+RegisterWritten tells Action old write new = (write.answer ≡ Ok tt) × ActsOn tells old (write.value % 2 ^ 32) new
+RegisterWritten tells Value old write new = (write.answer ≡ Ok tt) × (new ≡ record old { device = record old.device { value = write.value } })
+RegisterWritten tells NoRegister old write new = (write.answer ≡ Err (BadAccess write.at write.width)) × (new ≡ old)
 
 -- other bytes at a place of an area
 abbrev pub put_in : Area → ℕ → MachineState → List ℕ → MachineState
 put_in area start state bytes = record state { memory = with_bytes area state.memory (put_at (bytes_in area state.memory) start bytes) }
 
--- a write of a number
-abbrev pub AreaWritten : Type 0 → Area → ℕ → MachineState → ℕ → Width → ℕ → Result (Unit {0}) SpaceFault → MachineState → Type 0
-AreaWritten tells Device start old at width value answer new = RegisterWritten tells (register_at start width) old at width value answer new
-AreaWritten tells Handover start old at width value answer new = (answer ≡ Err (BadAccess at width)) × (new ≡ old)
-AreaWritten tells BootErrors start old at width value answer new = (answer ≡ Err (BadAccess at width)) × (new ≡ old)
-AreaWritten tells area start old at width value answer new = (answer ≡ Ok tt) × (new ≡ put_in area start old (spelled (bits width / 8) value))
+abbrev pub AreaWritten : Type 0 → Area → ℕ → MachineState → NumberWrite → MachineState → Type 0
+AreaWritten tells Device start old write new = RegisterWritten tells (register_at start write.width) old write new
+AreaWritten tells Handover start old write new = (write.answer ≡ Err (BadAccess write.at write.width)) × (new ≡ old)
+AreaWritten tells BootErrors start old write new = (write.answer ≡ Err (BadAccess write.at write.width)) × (new ≡ old)
+AreaWritten tells area start old write new = (write.answer ≡ Ok tt) × (new ≡ put_in area start old (spelled (bits write.width / 8) write.value))
 
-abbrev pub NumberWritten : Type 0 → Location → MachineState → ℕ → Width → ℕ → Result (Unit {0}) SpaceFault → MachineState → Type 0
-NumberWritten tells (Inside area start) old at width value answer new = AreaWritten tells area start old at width value answer new
-NumberWritten tells (Beyond area address) old at width value answer new = (answer ≡ Err (Unmapped address)) × (new ≡ old)
-NumberWritten tells (Nowhere address) old at width value answer new = (answer ≡ Err (Unmapped address)) × (new ≡ old)
+abbrev pub NumberWritten : Type 0 → Location → MachineState → NumberWrite → MachineState → Type 0
+NumberWritten tells (Inside area start) old write new = AreaWritten tells area start old write new
+NumberWritten tells (Beyond area address) old write new = (write.answer ≡ Err (Unmapped address)) × (new ≡ old)
+NumberWritten tells (Nowhere address) old write new = (write.answer ≡ Err (Unmapped address)) × (new ≡ old)
 
 -- what a reader's buffer holds after a read of bytes, and the answer
 abbrev pub area_bytes : Area → ℕ → MachineState → ℕ → List ℕ → Result (Unit {0}) SpaceFault × List ℕ
@@ -120,7 +130,7 @@ copy_of source target old from to n = copied (copy_fault source from) (copy_faul
 -- before, a call with its answer, after
 abbrev pub Allows : Type 0 → MachineState → Call → MachineState → Type 0
 Allows tells old (Read at width answer) new = (answer ≡ number_read (location_of old at (bits width / 8)) old (address_of at) width) × (new ≡ old)
-Allows tells old (Write at width value answer) new = NumberWritten tells (location_of old at (bits width / 8)) old (address_of at) width value answer new
+Allows tells old (Write at width value answer) new = NumberWritten tells (location_of old at (bits width / 8)) old (write_of (address_of at) width value answer) new
 Allows tells old (Wait micros) new = new ≡ record old { waited = min (old.waited + micros) (2 ^ 64 - 1) }
 Allows tells old (Copy from to n answer) new =
     let outcome = copy_of (location_at old from n) (location_at old to n) old from to n in

@@ -15,7 +15,7 @@ use Rattle.erst_machine.specs.declared.areas.Register.{Register}
 use Rattle.erst_machine.specs.declared.areas.Register.TheVariants.{Action, Value, NoRegister}
 use Rattle.erst_machine.specs.Areas.{is_plain, register_at}
 use Rattle.erst_machine.specs.MachineState.{MachineState, location_of, location_at}
-use Rattle.erst_machine.specs.Allowed.{register_read, area_read, number_read, RegisterWritten, AreaWritten, NumberWritten, area_bytes, bytes_read, area_stored, bytes_stored, copy_fault, copied, copy_of, Allows}
+use Rattle.erst_machine.specs.Allowed.{register_read, area_read, number_read, NumberWrite, write_of, RegisterWritten, AreaWritten, NumberWritten, area_bytes, bytes_read, area_stored, bytes_stored, copy_fault, copied, copy_of, Allows}
 
 abbrev no_faults : MachineState → ℕ
 no_faults state = 0
@@ -62,26 +62,26 @@ why_is {T = T} old new answer other is why = subst (λ (a : Result T SpaceFault)
 copy_is : (old new : MachineState) (answer other : Result (Unit {0}) SpaceFault) → answer ≡ other → WhyCopy old new other → WhyCopy old new answer
 copy_is old new answer other is why = subst (λ (a : Result (Unit {0}) SpaceFault). WhyCopy old new a) (sym is) why
 
-why_register : (tells : Type 0) (register : Register) (old new : MachineState) (at : ℕ) (width : Width) (value : ℕ) (answer : Result (Unit {0}) SpaceFault) →
-    RegisterWritten tells register old at width value answer new → Why old new answer
-why_register tells Action old new at width value answer h = why_is old new answer _ h.0 (why_ok old new tt)
-why_register tells Value old new at width value answer h = why_is old new answer _ h.0 (why_ok old new tt)
-why_register tells NoRegister old new at width value answer h = why_is old new answer _ h.0 (why_bad old new at width h.1)
+why_register : (tells : Type 0) (register : Register) (old new : MachineState) (write : NumberWrite) →
+    RegisterWritten tells register old write new → Why old new write.answer
+why_register tells Action old new write h = why_is old new write.answer _ h.0 (why_ok old new tt)
+why_register tells Value old new write h = why_is old new write.answer _ h.0 (why_ok old new tt)
+why_register tells NoRegister old new write h = why_is old new write.answer _ h.0 (why_bad old new write.at write.width h.1)
 
-why_area_written : (tells : Type 0) (area : Area) (start : ℕ) (old new : MachineState) (at : ℕ) (width : Width) (value : ℕ) (answer : Result (Unit {0}) SpaceFault) →
-    AreaWritten tells area start old at width value answer new → Why old new answer
-why_area_written tells Device start old new at width value answer h = why_register tells (register_at start width) old new at width value answer h
-why_area_written tells Scratch start old new at width value answer h = why_is old new answer _ h.0 (why_ok old new tt)
-why_area_written tells LogRange start old new at width value answer h = why_is old new answer _ h.0 (why_ok old new tt)
-why_area_written tells Handover start old new at width value answer h = why_is old new answer _ h.0 (why_bad old new at width h.1)
-why_area_written tells BootErrors start old new at width value answer h = why_is old new answer _ h.0 (why_bad old new at width h.1)
-why_area_written tells Ports start old new at width value answer h = why_is old new answer _ h.0 (why_ok old new tt)
+why_area_written : (tells : Type 0) (area : Area) (start : ℕ) (old new : MachineState) (write : NumberWrite) →
+    AreaWritten tells area start old write new → Why old new write.answer
+why_area_written tells Device start old new write h = why_register tells (register_at start write.width) old new write h
+why_area_written tells Scratch start old new write h = why_is old new write.answer _ h.0 (why_ok old new tt)
+why_area_written tells LogRange start old new write h = why_is old new write.answer _ h.0 (why_ok old new tt)
+why_area_written tells Handover start old new write h = why_is old new write.answer _ h.0 (why_bad old new write.at write.width h.1)
+why_area_written tells BootErrors start old new write h = why_is old new write.answer _ h.0 (why_bad old new write.at write.width h.1)
+why_area_written tells Ports start old new write h = why_is old new write.answer _ h.0 (why_ok old new tt)
 
-why_written : (tells : Type 0) (location : Location) (old new : MachineState) (at : ℕ) (width : Width) (value : ℕ) (answer : Result (Unit {0}) SpaceFault) →
-    NumberWritten tells location old at width value answer new → Why old new answer
-why_written tells (Inside area start) old new at width value answer h = why_area_written tells area start old new at width value answer h
-why_written tells (Beyond area address) old new at width value answer h = why_is old new answer _ h.0 (why_unmapped old new address h.1)
-why_written tells (Nowhere address) old new at width value answer h = why_is old new answer _ h.0 (why_unmapped old new address h.1)
+why_written : (tells : Type 0) (location : Location) (old new : MachineState) (write : NumberWrite) →
+    NumberWritten tells location old write new → Why old new write.answer
+why_written tells (Inside area start) old new write h = why_area_written tells area start old new write h
+why_written tells (Beyond area address) old new write h = why_is old new write.answer _ h.0 (why_unmapped old new address h.1)
+why_written tells (Nowhere address) old new write h = why_is old new write.answer _ h.0 (why_unmapped old new address h.1)
 
 why_area_bytes : (area : Area) (start : ℕ) (old new : MachineState) (at : ℕ) (before : List ℕ) → new ≡ old → Why old new (area_bytes area start old at before).0
 why_area_bytes Device start old new at before same = why_bad old new at B8 same
@@ -137,7 +137,7 @@ reasons tells old new (Read at width answer) h =
     let why = why_is old new answer _ h.0 (why_read (location_of old at (bits width / 8)) old new (address_of at) width h.1) in
     record { never_falls = omega arith; leaves = why.leaves; of_call = why.access }
 reasons tells old new (Write at width value answer) h =
-    let why = why_written tells (location_of old at (bits width / 8)) old new (address_of at) width value answer h in
+    let why = why_written tells (location_of old at (bits width / 8)) old new (write_of (address_of at) width value answer) h in
     record { never_falls = omega arith; leaves = why.leaves; of_call = why.access }
 reasons tells old new (Wait micros) h = record { never_falls = omega arith; leaves = tt; of_call = tt }
 reasons tells old new (Copy from to n answer) h =

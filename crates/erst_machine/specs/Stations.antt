@@ -1,6 +1,5 @@
 -- The machine as a station: its turns of the reader, and its accesses, which leave the handover as it is.
-use Rattle.std.proofs.Common.{◌≡◌, ℕ, ◌/◌, ◌≤◌, List, length, Result, Option, Some, None, refl, sym, ap, subst}
-use Rattle.apei_tables.specs.declared.widths.Width.{Width}
+use Rattle.std.proofs.Common.{◌≡◌, ℕ, ◌/◌, ◌≤◌, List, length, Option, Some, None, refl, sym, ap, subst}
 use Rattle.apei_tables.specs.Access.{bits}
 use Rattle.apei_space.specs.declared.faults.SpaceFault.{SpaceFault}
 use Rattle.apei_space.specs.Calls.{Call, Read, Write, Wait, Copy, ReadBytes, WriteBytes}
@@ -24,7 +23,7 @@ use Rattle.erst_machine.specs.Areas.{register_at}
 use Rattle.erst_machine.specs.Memories.{MemoryState}
 use Rattle.erst_machine.specs.MachineState.{MachineState, location_of, location_at}
 use Rattle.erst_machine.specs.Events.{Turns}
-use Rattle.erst_machine.specs.Allowed.{RegisterWritten, AreaWritten, NumberWritten, put_in, area_stored, bytes_stored, copied_from, copied_to, copied, Allows}
+use Rattle.erst_machine.specs.Allowed.{NumberWrite, write_of, RegisterWritten, AreaWritten, NumberWritten, put_in, area_stored, bytes_stored, copied_from, copied_to, copied, Allows}
 
 -- the handover and its memory are as before
 pub record SameHandover (old new : MachineState) : Type 0 where
@@ -45,26 +44,26 @@ same_put Handover start old bytes = record { handover = refl; shared = refl }
 same_put BootErrors start old bytes = record { handover = refl; shared = refl }
 same_put Ports start old bytes = record { handover = refl; shared = refl }
 
-same_register : (tells : Type 0) (register : Register) (old new : MachineState) (at : ℕ) (width : Width) (value : ℕ) (answer : Result (Unit {0}) SpaceFault) →
-    RegisterWritten tells register old at width value answer new → SameHandover old new
-same_register tells Action old new at width value answer h = record { handover = h.1.handover; shared = ap (λ (m : MemoryState). m.shared) h.1.memory }
-same_register tells Value old new at width value answer h = same_by old _ new h.1 (record { handover = refl; shared = refl })
-same_register tells NoRegister old new at width value answer h = same_itself old new h.1
+same_register : (tells : Type 0) (register : Register) (old new : MachineState) (write : NumberWrite) →
+    RegisterWritten tells register old write new → SameHandover old new
+same_register tells Action old new write h = record { handover = h.1.handover; shared = ap (λ (m : MemoryState). m.shared) h.1.memory }
+same_register tells Value old new write h = same_by old _ new h.1 (record { handover = refl; shared = refl })
+same_register tells NoRegister old new write h = same_itself old new h.1
 
-same_area : (tells : Type 0) (area : Area) (start : ℕ) (old new : MachineState) (at : ℕ) (width : Width) (value : ℕ) (answer : Result (Unit {0}) SpaceFault) →
-    AreaWritten tells area start old at width value answer new → SameHandover old new
-same_area tells Device start old new at width value answer h = same_register tells (register_at start width) old new at width value answer h
-same_area tells Scratch start old new at width value answer h = same_by old _ new h.1 (same_put Scratch start old _)
-same_area tells LogRange start old new at width value answer h = same_by old _ new h.1 (same_put LogRange start old _)
-same_area tells Handover start old new at width value answer h = same_itself old new h.1
-same_area tells BootErrors start old new at width value answer h = same_itself old new h.1
-same_area tells Ports start old new at width value answer h = same_by old _ new h.1 (same_put Ports start old _)
+same_area : (tells : Type 0) (area : Area) (start : ℕ) (old new : MachineState) (write : NumberWrite) →
+    AreaWritten tells area start old write new → SameHandover old new
+same_area tells Device start old new write h = same_register tells (register_at start write.width) old new write h
+same_area tells Scratch start old new write h = same_by old _ new h.1 (same_put Scratch start old _)
+same_area tells LogRange start old new write h = same_by old _ new h.1 (same_put LogRange start old _)
+same_area tells Handover start old new write h = same_itself old new h.1
+same_area tells BootErrors start old new write h = same_itself old new h.1
+same_area tells Ports start old new write h = same_by old _ new h.1 (same_put Ports start old _)
 
-same_written : (tells : Type 0) (location : Location) (old new : MachineState) (at : ℕ) (width : Width) (value : ℕ) (answer : Result (Unit {0}) SpaceFault) →
-    NumberWritten tells location old at width value answer new → SameHandover old new
-same_written tells (Inside area start) old new at width value answer h = same_area tells area start old new at width value answer h
-same_written tells (Beyond area address) old new at width value answer h = same_itself old new h.1
-same_written tells (Nowhere address) old new at width value answer h = same_itself old new h.1
+same_written : (tells : Type 0) (location : Location) (old new : MachineState) (write : NumberWrite) →
+    NumberWritten tells location old write new → SameHandover old new
+same_written tells (Inside area start) old new write h = same_area tells area start old new write h
+same_written tells (Beyond area address) old new write h = same_itself old new h.1
+same_written tells (Nowhere address) old new write h = same_itself old new h.1
 
 same_area_stored : (area : Area) (start : ℕ) (old : MachineState) (at : ℕ) (bytes : List ℕ) → SameHandover old (area_stored area start old at bytes).1
 same_area_stored Device start old at bytes = record { handover = refl; shared = refl }
@@ -91,7 +90,7 @@ same_copied None None source target old n = same_copied_to target old (copied_fr
 
 pub same_handover : (tells : Type 0) (old new : MachineState) (call : Call) → Allows tells old call new → SameHandover old new
 same_handover tells old new (Read at width answer) h = same_itself old new h.1
-same_handover tells old new (Write at width value answer) h = same_written tells (location_of old at (bits width / 8)) old new (address_of at) width value answer h
+same_handover tells old new (Write at width value answer) h = same_written tells (location_of old at (bits width / 8)) old new (write_of (address_of at) width value answer) h
 same_handover tells old new (Wait micros) h = same_by old _ new h (record { handover = refl; shared = refl })
 same_handover tells old new (Copy from to n answer) h = same_by old _ new h.1 (same_copied _ _ (location_at old from n) (location_at old to n) old n)
 same_handover tells old new (ReadBytes at before after answer) h = same_itself old new h.2

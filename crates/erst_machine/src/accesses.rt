@@ -6,7 +6,7 @@ ghost use Rattle.erst_device.specs.DeviceState.{DeviceState};
 ghost use Rattle.erst_machine.specs.Areas.{size_of, is_plain, IsPlaced};
 ghost use Rattle.erst_machine.specs.Memories.{memory_of, HasSizes};
 ghost use Rattle.erst_machine.specs.MachineState.{state_of, reach_in};
-ghost use Rattle.erst_machine.specs.Allowed.{register_read, area_read, number_read, RegisterWritten, AreaWritten, NumberWritten, area_bytes, bytes_read, area_stored, bytes_stored, copy_fault, copy_of};
+ghost use Rattle.erst_machine.specs.Allowed.{register_read, area_read, number_read, write_of, RegisterWritten, AreaWritten, NumberWritten, area_bytes, bytes_read, area_stored, bytes_stored, copy_fault, copy_of};
 
 use crate::areas::{Area, Location, Register, register_at};
 use crate::contents::Contents;
@@ -83,8 +83,8 @@ fn write_register<F: Flash>(
 ) -> Result<(), SpaceFault>
     requires { length contents.old.range.items ≡ reach_in device.old }
     ensures { (handover : HandoverState) (waited : ℕ)
-        → RegisterWritten F.tells register (state_of device.old contents.old handover waited) at width value result
-        (state_of device.new contents.new handover waited) }
+        → RegisterWritten F.tells register (state_of device.old contents.old handover waited)
+        (write_of at width value result) (state_of device.new contents.new handover waited) }
 {
     match register {
         Register::Action => {
@@ -112,8 +112,8 @@ fn write_area<F: Flash>(
     requires sizes { HasSizes (reach_in device.old) (memory_of contents.old) }
     requires placed { start + bits width / 8 ≤ size_of (reach_in device.old) area }
     ensures { (handover : HandoverState) (waited : ℕ)
-        → AreaWritten F.tells area start (state_of device.old contents.old handover waited) at width value result
-        (state_of device.new contents.new handover waited) }
+        → AreaWritten F.tells area start (state_of device.old contents.old handover waited)
+        (write_of at width value result) (state_of device.new contents.new handover waited) }
 {
     match area {
         Area::Device => write_register(
@@ -144,8 +144,8 @@ pub fn write_number<F: Flash>(
     requires sizes { HasSizes (reach_in device.old) (memory_of contents.old) }
     requires placed { IsPlaced (reach_in device.old) (bits width / 8) location }
     ensures { (handover : HandoverState) (waited : ℕ)
-        → NumberWritten F.tells location (state_of device.old contents.old handover waited) at width value result
-        (state_of device.new contents.new handover waited) }
+        → NumberWritten F.tells location (state_of device.old contents.old handover waited)
+        (write_of at width value result) (state_of device.new contents.new handover waited) }
 {
     match location {
         Location::Inside(area, start) => write_area(

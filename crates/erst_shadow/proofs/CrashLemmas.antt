@@ -29,8 +29,8 @@ change_crash pieces first last id command requests budget result left change =
 
 read_made_crash : (first last : MachineState) (id : ℕ) (result : Result (Unit {0}) ClientError) → ReadMade first last id result → KeepsMap first.device.store last.device.store
 read_made_crash first last id result made = elim made as (λ result made. KeepsMap first.device.store last.device.store) [
-  | IsRead found body generation asked named stored fits range cursor ↦ asked.leaves.kept
-  | read_refused refusal error asked refused is range cursor ↦ asked.leaves.kept
+  | IsRead found body generation asked named stored fits range cursor ↦ asked.looked.kept
+  | read_refused refusal error asked refused is range cursor ↦ asked.looked.kept
   | read_failed leaves rose range cursor ↦ leaves.kept
 ]
 

@@ -15,7 +15,7 @@ use Rattle.erst_machine.specs.declared.areas.Location.{Location}
 use Rattle.erst_machine.specs.declared.areas.Location.TheVariants.{Inside}
 use Rattle.erst_machine.specs.Areas.{memory_location}
 use Rattle.erst_machine.specs.MachineState.{MachineState, location_at}
-use Rattle.erst_machine.specs.Allowed.{Allows, number_read, NumberWritten, copy_of}
+use Rattle.erst_machine.specs.Allowed.{Allows, number_read, write_of, NumberWritten, copy_of}
 use Rattle.erst_machine.proofs.PlaceLemmas.{area_found}
 use Rattle.erst_device.specs.Actions.{log_range_at}
 use Rattle.erst_shadow.specs.ShadowTables.{scratch_at}
@@ -84,7 +84,7 @@ pub register_read : (tells : Type 0) (w v : MachineState) (r : MoveRegister) (an
 register_read tells w v r answer h = (h.0 ∙ ap (λ (s : Location). number_read s w (address_of r) B64) (register_location (length w.memory.range) r), h.1)
 
 pub register_written : (tells : Type 0) (w v : MachineState) (r : MoveRegister) (n : ℕ) (answer : Result (Unit {0}) SpaceFault) → Allows tells w (Write (Memory (address_of r)) B64 n answer) v → (answer ≡ Ok tt) × (v ≡ put r n w)
-register_written tells w v r n answer h = subst (λ (s : Location). NumberWritten tells s w (address_of r) B64 n answer v) (register_location (length w.memory.range) r) h
+register_written tells w v r n answer h = subst (λ (s : Location). NumberWritten tells s w (write_of (address_of r) B64 n answer) v) (register_location (length w.memory.range) r) h
 
 put_long : (first w : MachineState) (r : MoveRegister) (n : ℕ) → KeepsOthers first w → place_in r + length (spelled 8 n) ≤ length w.memory.scratch
 put_long first w r n comes = let low = (register_low r).1 in omega (arith, length-spelled 8 n, low, comes.scratch)

@@ -20,7 +20,7 @@ use Rattle.erst_interp.specs.Runs.{Run}
 use Rattle.erst_shadow.specs.MoveEntries.{MoveRegister, Offset, Source, Target, Length, address_of, move_entries}
 use Rattle.erst_shadow.specs.MoveSpaces.{ServesMove, after_rounds}
 use Rattle.erst_shadow.specs.MoveRuns.{move_then, move_steps, standing, WalkFrom, Begun, Then, Finishes, Exhausted, Halts, MovesOn, StopsWithin}
-use Rattle.erst_shadow.specs.PlainMoves.{ShareNone, HoldsMove, HasCopied, CopiesOrStops, Copies, RunsShort}
+use Rattle.erst_shadow.specs.PlainMoves.{ShareNone, Places, HoldsMove, HasCopied, MoveRun, CopiesOrStops, Copies, RunsShort}
 use Rattle.erst_shadow.proofs.RunLemmas.{moves_first}
 
 -- Parts of bytes in which others are put
@@ -78,7 +78,11 @@ registers_differ first Length Offset not = inl (omega arith)
 registers_differ first Length Source not = inl (omega arith)
 registers_differ first Length Target not = inl (omega arith)
 
-module _ (first : RamState) (from target count source sink registers : ℕ) (room : HoldsMove first from target count source sink registers) where
+module _ (first : RamState) (from target count source sink registers : ℕ)
+    (room : HoldsMove first (record { from = from; target = target; count = count }) (record { source = source; sink = sink; registers = registers })) where
+  abbrev places : Places
+  places = record { source = source; sink = sink; registers = registers }
+
   -- the memories that a move comes by
   abbrev Fits : RamState → Type 0
   Fits w = (w.windows ≡ first.windows) × (length w.bytes ≡ length first.bytes) × (w.waited ≡ first.waited)
@@ -179,7 +183,7 @@ module _ (first : RamState) (from target count source sink registers : ℕ) (roo
 
   -- What was copied
 
-  put_copied : (size : ℕ) (w : RamState) (r : MoveRegister) (n : ℕ) → size ≤ 128 * count → HasCopied first w size source sink registers → HasCopied first (put r n w) size source sink registers
+  put_copied : (size : ℕ) (w : RamState) (r : MoveRegister) (n : ℕ) → size ≤ 128 * count → HasCopied first w size places → HasCopied first (put r n w) size places
   put_copied size w r n less is =
       let fits : Fits w = (is.windows, is.as_long, is.waited) in
       let long = put_long w r n fits in
@@ -199,7 +203,7 @@ module _ (first : RamState) (from target count source sink registers : ℕ) (roo
       of_register at m (inl before) = inl (omega arith)
       of_register at m (inr behind) = inr (omega (arith, length-spelled 8 n, register_low r))
 
-  piece_copied : (i : ℕ) (w : RamState) → i < count → HasCopied first w (128 * i) source sink registers → HasCopied first (piece i w) (128 * suc i) source sink registers
+  piece_copied : (i : ℕ) (w : RamState) → i < count → HasCopied first w (128 * i) places → HasCopied first (piece i w) (128 * suc i) places
   piece_copied i w less is =
       let fits : Fits w = (is.windows, is.as_long, is.waited) in
       let size = piece_long w i fits less in
@@ -236,11 +240,11 @@ module _ (first : RamState) (from target count source sink registers : ℕ) (roo
       fewer at m (inl before) = inl before
       fewer at m (inr behind) = inr (omega arith)
 
-  none_copied : HasCopied first first 0 source sink registers
+  none_copied : HasCopied first first 0 places
   unfolding part
   none_copied = record { windows = refl; waited = refl; as_long = refl; copied = refl; others = λ at m apart beside. refl }
 
-  rounds_copied : (i : ℕ) → i ≤ count → HasCopied first (after_rounds ram_space i first) (128 * i) source sink registers
+  rounds_copied : (i : ℕ) → i ≤ count → HasCopied first (after_rounds ram_space i first) (128 * i) places
   unfolding ram_space
   rounds_copied zero less =
       put_copied 0 _ Offset 0 (omega arith) (put_copied 0 _ Length 128 (omega arith) (put_copied 0 _ Target target (omega arith) (put_copied 0 first Source from (omega arith) none_copied)))
@@ -269,16 +273,29 @@ module _ (first : RamState) (from target count source sink registers : ℕ) (roo
     unfolding move_entries
     none_here entry here = none-some entry here
 
+    abbrev as_run : Result ℕ RunStop → ℕ → RamState → MoveRun
+    as_run answer left last = record {
+      action = action;
+      move = record { from = from; target = target; count = count };
+      given = given;
+      budget = budget;
+      first = first;
+      answer = answer;
+      left = left;
+      last = last;
+    }
+
     pub move_copies : (answer : Result ℕ RunStop) (left : ℕ) (last : RamState) → Run Allows (move_then action from target count []) given budget first answer left last
-        → CopiesOrStops first count source sink registers given budget answer left last
+        → CopiesOrStops (as_run answer left last) places
     move_copies answer left last run =
-        elim (moves_first Allows Fits from target count ram_space room.below action [] given budget first (refl, refl, refl) answer left last run) as (λ answer left last ran. CopiesOrStops first count source sink registers given budget answer left last) [
-          | StopsWithin last short fits ↦ RunsShort last short
-          | MovesOn before answer left last spent behind ↦ elim behind as (λ answer left last behind. CopiesOrStops first count source sink registers given budget answer left last) [
+        elim (moves_first Allows Fits from target count ram_space room.below action [] given budget first (refl, refl, refl) answer left last run) as (λ answer left last ran. CopiesOrStops (as_run answer left last) places) [
+          | StopsWithin last short fits ↦ RunsShort refl refl short
+          | MovesOn before answer left last spent behind ↦ elim behind as (λ answer left last behind. CopiesOrStops (as_run answer left last) places) [
             | Finishes left c last walk over ↦
                 let is = ends before left c last walk in
-                subst (λ (n : ℕ). CopiesOrStops first count source sink registers given budget (Ok n) left last) (ap (λ (x : Configuration). unwrap_or x.result given) (sym is.c_is))
-                (Copies left last (subst (λ (w : RamState). HasCopied first w (128 * count) source sink registers) (sym is.w_is) (rounds_copied count (omega arith))) (ap (λ (n : ℕ). n + move_steps count) is.left_is ∙ spent))
+                let answered : ℕ → Result ℕ RunStop = λ n. Ok n in
+                Copies (ap answered (ap (λ (x : Configuration). unwrap_or x.result given) is.c_is))
+                (subst (λ (w : RamState). HasCopied first w (128 * count) places) (sym is.w_is) (rounds_copied count (omega arith))) (ap (λ (n : ℕ). n + move_steps count) is.left_is ∙ spent)
             | Exhausted c last walk more ↦
                 let is = ends before 0 c last walk in
                 absurd (omega (arith, more, all_long, ap (λ (x : Configuration). x.place) is.c_is))

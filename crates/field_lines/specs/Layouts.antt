@@ -143,12 +143,18 @@ unfoldable pub parts_end : (body : List ℕ) → Group → (n at : ℕ) → ℕ
 parts_end body group zero at = at
 parts_end body group (suc n) at = if nat_lt at (length body) then parts_end body group n (at + part_size group.measure (drop at body)) else at
 
+-- as many as the body says that it has
+abbrev pub group_text : (ℕ → ℕ → Field → List ℕ → List ℕ) → (ℕ → ℕ → Heading → List ℕ) → (base : ℕ) → (body : List ℕ) → Group → (at : ℕ) → List ℕ
+group_text text heading base body group at = parts_text text heading base body group (parts_told group body) 0 at
+
+abbrev pub group_end : (body : List ℕ) → Group → (at : ℕ) → ℕ
+group_end body group at = parts_end body group (parts_told group body) at
+
 -- the parts of each group, one group behind another
 abbrev pub groups_text : (ℕ → ℕ → Field → List ℕ → List ℕ) → (ℕ → ℕ → Heading → List ℕ) → (base : ℕ) → (body : List ℕ) → List Group → (at : ℕ) → List ℕ
 groups_text text heading base body [] at = []
 groups_text text heading base body (group ∷ groups) at =
-    parts_text text heading base body group (parts_told group body) 0 at
-    ++ groups_text text heading base body groups (parts_end body group (parts_told group body) at)
+    group_text text heading base body group at ++ groups_text text heading base body groups (group_end body group at)
 
 -- the fields of a body and its parts; they begin at a place, or at the body's end where it ends before
 abbrev pub structure_text : (ℕ → ℕ → Field → List ℕ → List ℕ) → (ℕ → ℕ → Heading → List ℕ) → (base : ℕ) → Structure → (body : List ℕ) → List ℕ

@@ -2,7 +2,7 @@
 ghost use Rattle.std.specs.Prelude.{◌≡◌, ◌<◌, ◌≤◌, ◌+◌, ◌^◌, ◌++◌, length, drop, map, min, OnOk, IfOk, IsTrue};
 ghost use Rattle.base_model.specs.Bytes.{part};
 ghost use Rattle.field_lines.specs.Numbers.{validation};
-ghost use Rattle.field_lines.specs.Layouts.{is_sound_structure, is_sound_group, are_sound_groups, is_sound_measure, is_sound_sign, are_sound_inside, structure_text, groups_text, parts_text, parts_end, parts_told, part_text, part_size, all_inside_text, inside_text, has_sign, has_guid, is_told, is_there, end_text};
+ghost use Rattle.field_lines.specs.Layouts.{is_sound_structure, is_sound_group, are_sound_groups, is_sound_measure, is_sound_sign, are_sound_inside, structure_text, groups_text, group_text, group_end, parts_told, part_text, part_size, all_inside_text, inside_text, has_sign, has_guid, is_told, is_there, end_text};
 ghost use Rattle.field_lines.specs.Fields.{are_sound};
 ghost use Rattle.field_lines.specs.Walks.{fields_text, shows_any};
 ghost use Rattle.field_lines.specs.Code.{content_fields, structure_of, group_of, measure_of, sign_of, inside_of};
@@ -68,10 +68,9 @@ fn add_parts<S: Style>(
     requires sound { IsTrue (is_sound_group (group_of group.now)) }
     requires place { base + length body.now < 2 ^ 64 }
     requires start { start ≤ length body.now }
-    ensures text { OnOk result (out.new.items ≡ out.old.items ++ parts_text (S.text style.now)
-        (S.heading style.now) base body.now (group_of group.now) (parts_told (group_of group.now) body.now) 0 start) }
-    ensures end { IfOk result (λ end. (end ≡ parts_end body.now (group_of group.now)
-        (parts_told (group_of group.now) body.now) start) × (end ≤ length body.now)) }
+    ensures text { OnOk result (out.new.items ≡ out.old.items ++ group_text (S.text style.now)
+        (S.heading style.now) base body.now (group_of group.now) start) }
+    ensures end { IfOk result (λ end. (end ≡ group_end body.now (group_of group.now) start) × (end ≤ length body.now)) }
 {
     let mut left = parts_told(group, body);
     let mut index = 0;

@@ -1,23 +1,17 @@
 -- How far bytes are erased.
-use Rattle.std.proofs.Common.{◌≡◌, ℕ, ◌+◌, ◌-◌, ◌^◌, ◌<◌, ◌≤◌, List, [], ◌∷◌, ◌++◌, length, take, drop, replicate, get_or, sym, ap, ◌∙◌, arith, drop-cons, take-add}
-use Rattle.std.proofs.lemmas.List.{take-append-drop, drop-drop, replicate-append-replicate}
-use Rattle.base_model.specs.Bytes.{part, number_at, spelled, AreBytes}
-use Rattle.base_model.proofs.BytesLemmas.{spelled-number_at}
+use Rattle.std.proofs.Common.{◌≡◌, ℕ, ◌+◌, ◌-◌, ◌<◌, ◌≤◌, List, [], ◌∷◌, ◌++◌, length, take, drop, replicate, get_or, sym, ap, subst, ◌∙◌, arith, drop-cons, take-add, length-append}
+use Rattle.std.proofs.lemmas.List.{take-append-drop, drop-drop, length-replicate, replicate-append-replicate}
+use Rattle.base_model.specs.Bytes.{part, put_at, SameOutside}
+use Rattle.base_model.proofs.BytesLemmas.{length-part, part-part, part-whole, part-append_left, part-append_right, part-before, part-after, part-put_at, SameOutside-put_at, SameOutside-wider, is_put_at}
+use Rattle.flash_model.specs.Content.{IsErasedAround}
+use Rattle.flash_model.specs.Entries.{among_erased}
 use Rattle.std.specs.Int.RustNames.{bit_and}
 use Rattle.std.proofs.lemmas.Nat.{and_le_l, and_le_r}
 
--- a word of ones, and a byte
-pub word-erased : (bytes : List ℕ) (at : ℕ) → AreBytes bytes → at + 8 ≤ length bytes → number_at bytes at 8 ≡ 2 ^ 64 - 1 → part bytes at 8 ≡ replicate 8 0xFF
-unfolding spelled
-word-erased bytes at each within ones = sym (spelled-number_at bytes at 8 each within) ∙ ap (spelled 8) ones
-
+-- a byte
 pub byte-erased : (bytes : List ℕ) (at : ℕ) → at < length bytes → get_or bytes at 0 ≡ 0xFF → part bytes at 1 ≡ replicate 1 0xFF
 unfolding part
 byte-erased bytes at within is = ap (take 1) (drop-cons bytes at 0 within) ∙ ap (λ (x : ℕ). x ∷ []) is
-
--- words whose common ones are all ones, one after another
-all_ones : (a b t : ℕ) → a ≤ t → b ≤ t → bit_and a b ≡ t → (a ≡ t) × (b ≡ t)
-all_ones a b t fits also is = let left = and_le_l a b in let right = and_le_r a b in (omega arith, omega arith)
 
 part-twice : (bytes : List ℕ) (at n m : ℕ) → part bytes at n ≡ replicate n 0xFF → part bytes (at + n) m ≡ replicate m 0xFF → part bytes at (n + m) ≡ replicate (n + m) 0xFF
 unfolding part
@@ -28,20 +22,14 @@ part-twice bytes at n m first second =
     ∙ ap (λ (xs : List ℕ). replicate n 0xFF ++ xs) second
     ∙ replicate-append-replicate n m 0xFF
 
-pub run-erased : (bytes : List ℕ) (at : ℕ) (a b c d : ℕ) → AreBytes bytes → at + 32 ≤ length bytes
-    → a ≡ number_at bytes at 8 → b ≡ number_at bytes (at + 8) 8 → c ≡ number_at bytes (at + 16) 8 → d ≡ number_at bytes (at + 24) 8
-    → a < 2 ^ 64 → b < 2 ^ 64 → c < 2 ^ 64 → d < 2 ^ 64 → bit_and (bit_and a b) (bit_and c d) ≡ 2 ^ 64 - 1 → part bytes at 32 ≡ replicate 32 0xFF
-run-erased bytes at a b c d each within is_a is_b is_c is_d fits_a fits_b fits_c fits_d ones =
-    let low_a = and_le_l a b in
-    let low_c = and_le_l c d in
-    let halves = all_ones (bit_and a b) (bit_and c d) (2 ^ 64 - 1) (omega arith) (omega arith) ones in
-    let first = all_ones a b (2 ^ 64 - 1) (omega arith) (omega arith) halves.0 in
-    let second = all_ones c d (2 ^ 64 - 1) (omega arith) (omega arith) halves.1 in
-    let word_a = word-erased bytes at each (omega arith) (sym is_a ∙ first.0) in
-    let word_b = word-erased bytes (at + 8) each (omega arith) (sym is_b ∙ first.1) in
-    let word_c = word-erased bytes (at + 16) each (omega arith) (sym is_c ∙ second.0) in
-    let word_d = word-erased bytes (at + 24) each (omega arith) (sym is_d ∙ second.1) in
-    part-twice bytes at 24 8 (part-twice bytes at 16 8 (part-twice bytes at 8 8 word_a word_b) word_c) word_d
+-- a byte more, where the ones that all bytes have are all ones
+pub ones-next : (bytes : List ℕ) (at k common : ℕ) → at + k < length bytes → common ≤ 0xFF → get_or bytes (at + k) 0 ≤ 0xFF
+    → (common ≡ 0xFF → part bytes at k ≡ replicate k 0xFF)
+    → bit_and common (get_or bytes (at + k) 0) ≡ 0xFF → part bytes at (k + 1) ≡ replicate (k + 1) 0xFF
+ones-next bytes at k common within fits_common fits_byte before ones =
+    let left = and_le_l common (get_or bytes (at + k) 0) in
+    let right = and_le_r common (get_or bytes (at + k) 0) in
+    part-twice bytes at k 1 (before (omega arith)) (byte-erased bytes (at + k) within (omega arith))
 
 -- erased bytes in front and behind, and some more
 pub front-more : (bytes : List ℕ) (count n : ℕ) → take count bytes ≡ replicate count 0xFF → part bytes count n ≡ replicate n 0xFF → take (count + n) bytes ≡ replicate (count + n) 0xFF
@@ -75,3 +63,61 @@ pub back-next : (bytes : List ℕ) (end n : ℕ) → n ≤ end → part bytes (e
 back-next bytes end n low more back =
     let is : (end - n) + n ≡ end = omega arith in
     record { within = omega (arith, back.within); erased = back-more bytes (end - n) n end is back.within back.erased more }
+
+-- kept bytes between others that are erased
+around-lists : (front kept back : List ℕ) → front ≡ replicate (length front) 0xFF → back ≡ replicate (length back) 0xFF
+    → IsErasedAround (length front) (length kept) (front ++ kept ++ back)
+around-lists front kept back erased_front erased_back =
+    let ahead : length (front ++ kept) ≡ length front + length kept = length-append front kept in
+    let whole : length (front ++ kept ++ back) ≡ length (front ++ kept) + length back = length-append (front ++ kept) back in
+    let rest : length (front ++ kept ++ back) - (length front + length kept) ≡ length back = omega arith in
+    record {
+      within = omega arith;
+      before = part-append_left (front ++ kept) back 0 (length front) (omega arith) ∙ part-append_left front kept 0 (length front) (omega arith)
+          ∙ part-whole front (length front) (omega arith) ∙ erased_front;
+      after = subst (λ (n : ℕ). part (front ++ kept ++ back) (length front + length kept) n ≡ replicate n 0xFF) (sym rest)
+          (part-append_right (front ++ kept) back (length front + length kept) 0 (length back) (omega arith) ∙ part-whole back (length back) (omega arith) ∙ erased_back);
+    }
+
+pub around-kept : (before : ℕ) (kept : List ℕ) (after : ℕ) → IsErasedAround before (length kept) (among_erased before kept after)
+around-kept before kept after =
+    let front : length (replicate {A = ℕ} before 0xFF) ≡ before = length-replicate {A = ℕ} before 0xFF in
+    let back : length (replicate {A = ℕ} after 0xFF) ≡ after = length-replicate {A = ℕ} after 0xFF in
+    let same_front : replicate {A = ℕ} before 0xFF ≡ replicate (length (replicate {A = ℕ} before 0xFF)) 0xFF = ap (λ (n : ℕ). replicate {A = ℕ} n 0xFF) (sym front) in
+    let same_back : replicate {A = ℕ} after 0xFF ≡ replicate (length (replicate {A = ℕ} after 0xFF)) 0xFF = ap (λ (n : ℕ). replicate {A = ℕ} n 0xFF) (sym back) in
+    subst (λ (n : ℕ). IsErasedAround n (length kept) (among_erased before kept after)) front
+    (around-lists (replicate before 0xFF) kept (replicate after 0xFF) same_front same_back)
+
+-- it is enough to erase the bytes that are not erased
+pub put-kept : (image : List ℕ) (at len start n : ℕ) → at + len ≤ length image → IsErasedAround start n (part image at len)
+    → put_at image (at + start) (replicate n 0xFF) ≡ put_at image at (replicate len 0xFF)
+put-kept image at len start n fits around =
+    let new = put_at image (at + start) (replicate n 0xFF) in
+    let size : length (replicate {A = ℕ} n 0xFF) ≡ n = length-replicate {A = ℕ} n 0xFF in
+    let whole : length (part image at len) ≡ len = length-part image at len fits in
+    let within : start + n ≤ len = omega (arith, around.within) in
+    let put_within : at + start + length (replicate {A = ℕ} n 0xFF) ≤ length image = omega arith in
+    let rest = len - (start + n) in
+    let same_at : at ≡ at + 0 = omega arith in
+    let same_next : at + (start + n) ≡ at + start + n = omega arith in
+    let same_end : start + n + (len - (start + n)) ≡ len = omega arith in
+    let so : SameOutside (at + start) n image new =
+    subst (λ (m : ℕ). SameOutside (at + start) m image new) size (SameOutside-put_at image (at + start) (replicate n 0xFF) put_within) in
+    let first : part new at start ≡ replicate start 0xFF =
+    part-before (at + start) n at start image new so (omega arith) ∙ ap (λ (k : ℕ). part image k start) same_at
+    ∙ sym (part-part image at len 0 start (omega arith)) ∙ around.before in
+    let second : part new (at + start) n ≡ replicate n 0xFF =
+    ap (λ (m : ℕ). part new (at + start) m) (sym size) ∙ part-put_at image (at + start) (replicate n 0xFF) put_within in
+    let behind : part (part image at len) (start + n) rest ≡ replicate rest 0xFF =
+    subst (λ (m : ℕ). part (part image at len) (start + n) (m - (start + n)) ≡ replicate (m - (start + n)) 0xFF) whole around.after in
+    let third : part new (at + (start + n)) rest ≡ replicate rest 0xFF =
+    part-after (at + start) n (at + (start + n)) rest image new so (omega arith) ∙ sym (part-part image at len (start + n) rest (omega arith)) ∙ behind in
+    let all : part new at (start + n + rest) ≡ replicate (start + n + rest) 0xFF =
+    part-twice new at (start + n) rest (part-twice new at start n first second) third in
+    let size_all : length (replicate {A = ℕ} len 0xFF) ≡ len = length-replicate {A = ℕ} len 0xFF in
+    is_put_at image new at (replicate len 0xFF)
+    (subst (λ (m : ℕ). SameOutside at m image new) (sym size_all) (SameOutside-wider (at + start) n at len image new (omega arith) (omega arith) so))
+    (subst (λ (m : ℕ). part new at m ≡ replicate len 0xFF) (sym size_all) (subst (λ (m : ℕ). part new at m ≡ replicate m 0xFF) same_end all))
+
+pub around-within : (image : List ℕ) (at len start n : ℕ) → at + len ≤ length image → IsErasedAround start n (part image at len) → at + start + n ≤ length image
+around-within image at len start n fits around = let whole = length-part image at len fits in omega (arith, around.within)

@@ -1,13 +1,20 @@
 -- What a change puts into its range.
-use Rattle.std.specs.Prelude.{◌≡◌, ℕ, List, length, replicate}
+use Rattle.std.specs.Prelude.{◌≡◌, ℕ, ◌+◌, ◌-◌, ◌≤◌, List, length, replicate}
+use Rattle.base_model.specs.Flash.{IsErased}
 use Rattle.flash_model.specs.declared.content.Content.{Content}
-use Rattle.flash_model.specs.declared.content.Content.TheVariants.{Bytes, Fill}
+use Rattle.flash_model.specs.declared.content.Content.TheVariants.{Bytes, Erased}
 
 abbrev pub bytes_of : Content → List ℕ
 bytes_of (Bytes bytes) = bytes.now
-bytes_of (Fill byte len) = replicate len byte
+bytes_of (Erased len) = replicate len 0xFF
 
 -- bytes are put only where all is erased
 abbrev pub MayReplace : Content → List ℕ → Type 0
 MayReplace (Bytes bytes) old = old ≡ replicate (length bytes.now) 0xFF
-MayReplace (Fill byte len) old = Unit {0}
+MayReplace (Erased len) old = Unit {0}
+
+-- all bytes before and behind the n bytes at a place are erased
+pub record IsErasedAround (at n : ℕ) (bytes : List ℕ) : Type 0 where
+  pub within : at + n ≤ length bytes
+  pub before : IsErased bytes 0 at
+  pub after : IsErased bytes (at + n) (length bytes - (at + n))

@@ -1,24 +1,26 @@
 // What a change of a simulated flash puts into its range.
 ghost use Rattle.std.specs.Prelude.{◌≡◌, ◌+◌, ◌≤◌, length, replicate, Option};
-ghost use Rattle.base_model.specs.Bytes.{put_at};
+ghost use Rattle.base_model.specs.Bytes.{part, put_at};
 
 use crate::Tear;
 use crate::ranges::fill_range;
-use crate::replaced::Replaced;
+use crate::replaced::{Kept, Replaced};
+
+const ERASED: u8 = 0xFF;
 
 const ZERO: u8 = 0x00;
 
 const MARK: u8 = 0xA5;
 
-/// Bytes, or one byte many times.
+/// Bytes, or so many erased ones.
 #[derive(Clone, Copy)]
 pub(crate) enum Content<'a> {
     Bytes(&'a [u8]),
-    Fill { byte: u8, len: usize },
+    Erased { len: usize },
 }
 
 impl Content<'_> {
-    ghost use Rattle.flash_model.specs.Content.{bytes_of, MayReplace};
+    ghost use Rattle.flash_model.specs.Content.{bytes_of, IsErasedAround, MayReplace};
     ghost use Rattle.flash_model.specs.Simulation.{image_left};
 
     pub(crate) fn len(self) -> usize
@@ -26,7 +28,7 @@ impl Content<'_> {
     {
         match self {
             Content::Bytes(bytes) => bytes.len(),
-            Content::Fill { byte: _, len } => len,
+            Content::Erased { len } => len,
         }
     }
 
@@ -38,28 +40,30 @@ impl Content<'_> {
     {
         match self {
             Content::Bytes(_) => Replaced::erased(old),
-            Content::Fill { byte: _, len: _ } => Replaced::of(old),
+            Content::Erased { len: _ } => Replaced::of(old),
         }
     }
 
-    // Puts it into an image from a place on.
-    fn put(self, image: &mut [u8], at: usize)
-        requires { at + length (bytes_of self) ≤ length image.old }
+    // Puts it into an image from a place on, where all but the kept bytes are erased.
+    fn put(self, image: &mut [u8], at: usize, kept: Kept)
+        requires within { at + length (bytes_of self) ≤ length image.old }
+        requires around { IsErasedAround kept.at kept.len (part image.old at (length (bytes_of self))) }
         ensures { image.new ≡ put_at image.old at (bytes_of self.entry) }
     {
         match self {
             Content::Bytes(bytes) => image[at..at + bytes.len()].copy_from_slice(bytes),
-            Content::Fill { byte, len } => fill_range(image, at, len, byte),
+            Content::Erased { len: _ } => fill_range(image, at + kept.at, kept.len, ERASED),
         }
     }
 
-    /// Leaves in an image what a change to this leaves, torn so or whole.
-    pub(crate) fn leave(self, tear: Option<Tear>, image: &mut [u8], at: usize)
-        requires { at + length (bytes_of self) ≤ length image.old }
+    /// Leaves in an image what a change to this leaves, torn so or whole, where all but the kept bytes are erased.
+    pub(crate) fn leave(self, tear: Option<Tear>, image: &mut [u8], at: usize, kept: Kept)
+        requires within { at + length (bytes_of self) ≤ length image.old }
+        requires around { IsErasedAround kept.at kept.len (part image.old at (length (bytes_of self))) }
         ensures { image.new ≡ image_left tear image.old at (bytes_of self.entry) }
     {
         match tear {
-            None | Some(Tear::Whole) => self.put(image, at),
+            None | Some(Tear::Whole) => self.put(image, at, kept),
             Some(Tear::Nothing) => {}
             Some(Tear::Zeros) => fill_range(image, at, self.len(), ZERO),
             Some(Tear::Marks) => fill_range(image, at, self.len(), MARK),

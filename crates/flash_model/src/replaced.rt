@@ -2,16 +2,15 @@
 ghost use Rattle.std.specs.Prelude.{◌≡◌, ◌≢◌, ◌+◌, ◌-◌, ◌<◌, ◌≤◌, IsTrue, length, take, drop, replicate, slice_index};
 ghost use Rattle.base_model.specs.Bytes.{part};
 
-use apei_bytes::get_u64;
 use std::marker::Model;
 
 const ERASED: u8 = 0xFF;
 
-/// The bytes of a number that are looked at together.
-const WORD: usize = 8;
+/// The bytes that are looked at together while there are many.
+const LONG_RUN: usize = 256;
 
-/// The bytes of four such numbers.
-const RUN: usize = 4 * WORD;
+/// The bytes that are looked at together then.
+const RUN: usize = 16;
 
 /// Bytes, of which those before and after the kept ones are erased.
 #[derive(Drop)]
@@ -30,7 +29,16 @@ impl<'a> Model for Replaced<'a> {
     ghost view = { λ replaced. among_erased replaced.before replaced.kept.now replaced.after };
 }
 
+/// Where the kept ones of such bytes are.
+#[derive(Clone, Copy)]
+pub(crate) struct Kept {
+    pub at: usize,
+    pub len: usize,
+}
+
 impl<'a> Replaced<'a> {
+    ghost use Rattle.flash_model.specs.Content.{IsErasedAround};
+
     /// These bytes, kept from the first that is not erased to the last.
     pub fn of(bytes: &'a [u8]) -> Replaced<'a>
         ensures { result ≡ bytes.now }
@@ -56,16 +64,29 @@ impl<'a> Replaced<'a> {
             after: 0,
         }
     }
+
+    /// Where the kept ones are.
+    pub fn kept_at(&self) -> Kept
+        ensures { IsErasedAround result.at result.len self.now }
+    {
+        Kept {
+            at: self.before,
+            len: self.kept.len(),
+        }
+    }
 }
 
-/// Whether the four words at a place are erased.
-fn is_run_erased(bytes: &[u8], at: usize) -> bool
-    requires { at + 32 ≤ length bytes.now }
-    ensures { IsTrue result → part bytes.now at 32 ≡ replicate 32 0xFF }
+/// Whether all bytes of a run are erased. They are looked at together: no branch depends on one of them.
+#[inline(always)]
+fn is_run_erased(bytes: &[u8], at: usize, len: usize) -> bool
+    requires { at + len ≤ length bytes.now }
+    ensures { IsTrue result → part bytes.now at len ≡ replicate len 0xFF }
 {
-    let first = get_u64(bytes, at) & get_u64(bytes, at + WORD);
-    let second = get_u64(bytes, at + 2 * WORD) & get_u64(bytes, at + 3 * WORD);
-    first & second == u64::MAX
+    let mut common = ERASED;
+    for k in 0..len {
+        common &= bytes[at + k];
+    }
+    common == ERASED
 }
 
 /// How many of the first bytes are erased.
@@ -75,11 +96,11 @@ fn erased_front(bytes: &[u8]) -> usize
     ensures no_more { result < length bytes.now → slice_index bytes.now result ≢ 0xFF }
 {
     let mut count = 0;
-    while bytes.len() - count >= RUN && is_run_erased(bytes, count) {
-        count += RUN;
+    while bytes.len() - count >= LONG_RUN && is_run_erased(bytes, count, LONG_RUN) {
+        count += LONG_RUN;
     }
-    while bytes.len() - count >= WORD && get_u64(bytes, count) == u64::MAX {
-        count += WORD;
+    while bytes.len() - count >= RUN && is_run_erased(bytes, count, RUN) {
+        count += RUN;
     }
     while count < bytes.len() && bytes[count] == ERASED {
         count += 1;
@@ -94,11 +115,11 @@ fn erased_from(bytes: &[u8]) -> usize
     ensures no_less { 0 < result → slice_index bytes.now (result - 1) ≢ 0xFF }
 {
     let mut end = bytes.len();
-    while end >= RUN && is_run_erased(bytes, end - RUN) {
-        end -= RUN;
+    while end >= LONG_RUN && is_run_erased(bytes, end - LONG_RUN, LONG_RUN) {
+        end -= LONG_RUN;
     }
-    while end >= WORD && get_u64(bytes, end - WORD) == u64::MAX {
-        end -= WORD;
+    while end >= RUN && is_run_erased(bytes, end - RUN, RUN) {
+        end -= RUN;
     }
     while end > 0 && bytes[end - 1] == ERASED {
         end -= 1;

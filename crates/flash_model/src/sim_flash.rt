@@ -11,8 +11,6 @@ use crate::{Cut, Flash, FlashFailed, Tear};
 use std::alloc::Global;
 use std::marker::Model;
 
-const ERASED: u8 = 0xFF;
-
 /// A flash in memory that fails where it is told to.
 ///
 /// It keeps a journal of the bytes that its changes replaced, in memory that it asks for as it grows. A change that finds
@@ -141,6 +139,7 @@ impl SimFlash {
         let step = self.steps;
         let tear = self.power.tear_at(&self.failing, step);
         let replaced = content.replaced(&self.image[at..at + content.len()]);
+        let kept = replaced.kept_at();
         let noted = self.journal.note(step, at, replaced);
         self.power = self.power.after(step);
         self.steps += 1;
@@ -149,7 +148,7 @@ impl SimFlash {
             self.faults = next_count(self.faults);
             return Err(FlashFailed);
         }
-        content.leave(tear, &mut self.image, at);
+        content.leave(tear, &mut self.image, at, kept);
         if tear.is_some() {
             self.faults = next_count(self.faults);
             return Err(FlashFailed);
@@ -238,7 +237,7 @@ impl Flash for SimFlash {
             (replicate self.old.sector_size 0xFF) self.new }
     {
         let len = self.sector as usize;
-        self.change(sector as usize * len, Content::Fill { byte: ERASED, len })
+        self.change(sector as usize * len, Content::Erased { len })
     }
 
     fn steps(&self) -> u64 {

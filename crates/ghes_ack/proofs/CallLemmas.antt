@@ -14,8 +14,8 @@ use Rattle.ghes_ack.specs.declared.events.Event.{Event}
 use Rattle.ghes_ack.specs.Machine.{Machine, Situation, Filling, Published, Reading, Cleared, Acknowledged, Fits, with_status, turned, turned_times, events_of_times, started, submitted, IsState}
 use Rattle.ghes_ack.specs.Maps.{HasWindows, ack_bytes, ack_mask, ack_read}
 use Rattle.ghes_ack.specs.Elsewhere.{SameInMap}
-use Rattle.ghes_ack.specs.Handovers.{HandoverState, AcksAre, StandsFor, IsTurned, AreTurned}
-use Rattle.ghes_ack.specs.Schedules.{Step, Submit, Turn, Watched, after, run, from_start, events_of, AreFitting, Call, Submits, Turns, ManyTurns, OthersWrite, Held, DoAll, steps_of, answers_of, HandsOver}
+use Rattle.ghes_ack.specs.Handovers.{HandoverState, WithMemory, AcksAre, StandsFor, IsTurned, AreTurned}
+use Rattle.ghes_ack.specs.Schedules.{Step, Submit, Turn, Watched, after, run, from_start, events_of, AreFitting, Call, Submits, Turns, ManyTurns, OthersWrite, DoAll, steps_of, answers_of, HandsOver}
 use Rattle.ghes_ack.proofs.StepLemmas.{turn_keeps}
 use Rattle.ghes_ack.proofs.ScheduleLemmas.{watched_machine, run_taken, run_order, run_blocks}
 
@@ -55,8 +55,8 @@ StandsFor-others h old new m s st = record {
 }
 
 -- after some calls, from any state
-record Goes (calls : List Call) (last : Held) (w : Watched) (len : ℕ) : Type 0 where
-  stands : StandsFor last.0 last.1 (run w (steps_of calls)).machine
+record Goes (calls : List Call) (last : WithMemory HandoverState) (w : Watched) (len : ℕ) : Type 0 where
+  stands : StandsFor last.state last.memory (run w (steps_of calls)).machine
   events : answers_of calls ≡ events_of w (steps_of calls)
   fitting : AreFitting len (steps_of calls)
 
@@ -95,24 +95,24 @@ last_fits len blocks block all =
     let n = length-append blocks (block ∷ []) in
     subst (Fits len) (get_or_at blocks block [] [] (length blocks) refl) (all (length blocks) [] (omega (arith, n)))
 
-goes : (calls : List Call) (first last : Held) (w : Watched) (len : ℕ) → length w.machine.window ≡ len → StandsFor first.0 first.1 w.machine → DoAll calls first last → Goes calls last w len
-goes [] first last w len n st same = record { stands = subst (λ (p : Held). StandsFor p.0 p.1 w.machine) (sym same) st; events = refl; fitting = tt }
+goes : (calls : List Call) (first last : WithMemory HandoverState) (w : Watched) (len : ℕ) → length w.machine.window ≡ len → StandsFor first.state first.memory w.machine → DoAll calls first last → Goes calls last w len
+goes [] first last w len n st same = record { stands = subst (λ (p : WithMemory HandoverState). StandsFor p.state p.memory w.machine) (sym same) st; events = refl; fitting = tt }
 goes (Submits block ∷ calls) first last w len n st (between, does, later) =
-    let next : StandsFor between.0 first.1 (submitted w.machine block) = does.1 first.1 w.machine st in
-    let here : StandsFor between.0 between.1 (submitted w.machine block) = subst (λ (r : RamState). StandsFor between.0 r (submitted w.machine block)) (sym does.0) next in
+    let next : StandsFor between.state first.memory (submitted w.machine block) = does.1 first.memory w.machine st in
+    let here : StandsFor between.state between.memory (submitted w.machine block) = subst (λ (r : RamState). StandsFor between.state r (submitted w.machine block)) (sym does.0) next in
     let rest = goes calls between last (after w (Submit block)) len n here later in
-    let wide : between.0.map.len ≡ len = sym next.state.window ∙ n in
+    let wide : between.state.map.len ≡ len = sym next.state.window ∙ n in
     record {
       stands = rest.stands;
       events = rest.events;
-      fitting = (subst (λ (k : ℕ). Fits k block) wide (last_fits between.0.map.len w.machine.blocks block next.state.blocks), rest.fitting);
+      fitting = (subst (λ (k : ℕ). Fits k block) wide (last_fits between.state.map.len w.machine.blocks block next.state.blocks), rest.fitting);
     }
 goes (Turns side event ∷ calls) first last w len n st (between, does, later) =
-    let t : IsTurned side event between.0 between.1 w.machine = does w.machine st in
+    let t : IsTurned side event between.state between.memory w.machine = does w.machine st in
     let is : (after w (Turn side)).machine ≡ (turned side w.machine).1 = watched_machine w (turned side w.machine).0 (turned side w.machine).1 in
-    let kept : IsState first.0.map.len (turned side w.machine).1 = turn_keeps first.0.map.len side w.machine st.state in
+    let kept : IsState first.state.map.len (turned side w.machine).1 = turn_keeps first.state.map.len side w.machine st.state in
     let wide : length (after w (Turn side)).machine.window ≡ len = ap (λ (m : Machine). length m.window) is ∙ kept.window ∙ sym st.state.window ∙ n in
-    let here : StandsFor between.0 between.1 (after w (Turn side)).machine = subst (StandsFor between.0 between.1) (sym is) t.stands in
+    let here : StandsFor between.state between.memory (after w (Turn side)).machine = subst (StandsFor between.state between.memory) (sym is) t.stands in
     let rest = goes calls between last (after w (Turn side)) len wide here later in
     record {
       stands = rest.stands;
@@ -120,20 +120,20 @@ goes (Turns side event ∷ calls) first last w len n st (between, does, later) =
       fitting = rest.fitting;
     }
 goes (ManyTurns side events ∷ calls) first last w len n st (between, does, later) =
-    let t : AreTurned side (length events) events between.0 between.1 w.machine = does w.machine st in
+    let t : AreTurned side (length events) events between.state between.memory w.machine = does w.machine st in
     let is : (after_times side (length events) w).machine ≡ turned_times side (length events) w.machine = times_machine side (length events) w in
-    let kept : IsState first.0.map.len (turned_times side (length events) w.machine) = times_keep side (length events) first.0.map.len w.machine st.state in
+    let kept : IsState first.state.map.len (turned_times side (length events) w.machine) = times_keep side (length events) first.state.map.len w.machine st.state in
     let wide : length (after_times side (length events) w).machine.window ≡ len = ap (λ (m : Machine). length m.window) is ∙ kept.window ∙ sym st.state.window ∙ n in
-    let here : StandsFor between.0 between.1 (after_times side (length events) w).machine = subst (StandsFor between.0 between.1) (sym is) t.stands in
+    let here : StandsFor between.state between.memory (after_times side (length events) w).machine = subst (StandsFor between.state between.memory) (sym is) t.stands in
     let rest = goes calls between last (after_times side (length events) w) len wide here later in
     record {
-      stands = subst (λ (x : Watched). StandsFor last.0 last.1 x.machine) (sym (times_run side (length events) w (steps_of calls))) rest.stands;
+      stands = subst (λ (x : Watched). StandsFor last.state last.memory x.machine) (sym (times_run side (length events) w (steps_of calls))) rest.stands;
       events = ap (λ (es : List Event). es ++ answers_of calls) t.events_are ∙ ap (λ (es : List Event). events_of_times side (length events) w.machine ++ es) rest.events ∙ sym (times_events side (length events) w (steps_of calls));
       fitting = times_fitting side (length events) len (steps_of calls) rest.fitting;
     }
 goes (OthersWrite ∷ calls) first last w len n st (between, does, later) =
-    let same : StandsFor first.0 between.1 w.machine = StandsFor-others first.0 first.1 between.1 w.machine does.1 st in
-    let here : StandsFor between.0 between.1 w.machine = subst (λ (h : HandoverState). StandsFor h between.1 w.machine) (sym does.0) same in
+    let same : StandsFor first.state between.memory w.machine = StandsFor-others first.state first.memory between.memory w.machine does.1 st in
+    let here : StandsFor between.state between.memory w.machine = subst (λ (h : HandoverState). StandsFor h between.memory w.machine) (sym does.0) same in
     let rest = goes calls between last w len n here later in
     record { stands = rest.stands; events = rest.events; fitting = rest.fitting }
 
@@ -147,11 +147,11 @@ started_long window n is room =
     let d = length-drop (0 + length (spelled 4 0)) window in
     omega (arith, z, a, b, d, is, room)
 
-pub hands_over : (window : List ℕ) (calls : List Call) (first last : Held) → StandsFor first.0 first.1 (started window) → DoAll calls first last → HandsOver window calls last
+pub hands_over : (window : List ℕ) (calls : List Call) (first last : WithMemory HandoverState) → StandsFor first.state first.memory (started window) → DoAll calls first last → HandsOver window calls last
 hands_over window calls first last st all =
-    let g = goes calls first last (from_start window) first.0.map.len st.state.window st all in
+    let g = goes calls first last (from_start window) first.state.map.len st.state.window st all in
     let room = st.state.room in
-    let long = started_long window first.0.map.len st.state.window room in
+    let long = started_long window first.state.map.len st.state.window room in
     let good : AreFitting (length window) (steps_of calls) = subst (λ (k : ℕ). AreFitting k (steps_of calls)) (sym long) g.fitting in
     let wide : 20 ≤ length window = omega (arith, long, room) in
     let blocks = run_blocks window (steps_of calls) in

@@ -17,7 +17,7 @@ use Rattle.ghes_ack.specs.declared.ends.ReaderEnd.TheVariants.{Looks, Reads, Ack
 use Rattle.ghes_ack.specs.Queues.{Blocks, HasRoom}
 use Rattle.ghes_ack.specs.Machine.{Machine, Situation, Filling, Published, Reading, Cleared, Acknowledged, Fits}
 use Rattle.ghes_ack.specs.Maps.{HasAckBits, status_word, ack_read, with_ack, acknowledged, IsSet}
-use Rattle.ghes_ack.specs.Handovers.{HandoverState, StandsFor, AreTurned}
+use Rattle.ghes_ack.specs.Handovers.{HandoverState, StandsFor, AreTurned, over}
 use Rattle.ghes_ack.specs.Sides.{Turns, Runs, Stands, looking_at, waiting_at, situation_of, state_of, handover_of, in_work, IsCopiedSoFar, IsFar, AreApart, IsConsistent}
 use Rattle.ghes_ack.specs.OwnTurns.{IsAble, FirmwareMakes, Idles, Fills, Publishes, FirmwareRuns, read_over, ReaderMakes, Copies, Takes, Clears, GoesOn, ReaderRuns}
 use Rattle.ghes_ack.proofs.TurnLemmas.{idles, publishes, waits, frees, finds, finds_nothing, some_status, no_status, acks_in, set_and_clear, work_fits, copies_over, clears, acknowledges}
@@ -26,14 +26,14 @@ use Rattle.ghes_ack.proofs.SideLemmas.{none_copied}
 
 -- a run, by what its events, its last state and its memory are
 runs_as : (side : Side) (h : HandoverState) (ram : RamState) (m : Machine) (events others : List Event) (new after : HandoverState) (memory left : RamState) → events ≡ others → new ≡ after → memory ≡ left →
-    Runs side others h ram after left m → Runs side events h ram new memory m
+    Runs side others (over h ram) (over after left) m → Runs side events (over h ram) (over new memory) m
 runs_as side h ram m events others new after memory left is_events is_new is_memory run =
-    subst (λ (es : List Event). Runs side es h ram new memory m) (sym is_events)
-    (subst (λ (n : HandoverState). Runs side others h ram n memory m) (sym is_new) (subst (λ (r : RamState). Runs side others h ram after r m) (sym is_memory) run))
+    subst (λ (es : List Event). Runs side es (over h ram) (over new memory) m) (sym is_events)
+    (subst (λ (n : HandoverState). Runs side others (over h ram) (over n memory) m) (sym is_new) (subst (λ (r : RamState). Runs side others (over h ram) (over after r) m) (sym is_memory) run))
 
 -- the firmware writes
 pub firmware_made : (h : HandoverState) (ram : RamState) (events : List Event) (new : HandoverState) (memory : RamState) → FirmwareMakes h ram events new memory → h.situation ≡ Filling → (m : Machine) → StandsFor h ram m →
-    Runs Firmware events h ram new memory m
+    Runs Firmware events (over h ram) (over new memory) m
 firmware_made h ram events new memory (Idles none is_events is_new is_memory) now m st =
     runs_as Firmware h ram m events (Idle ∷ []) new h memory ram is_events is_new is_memory (run_one Firmware Idle h h ram ram m (idles h ram m now none st))
 firmware_made h ram events new memory (Fills count block rest held more is_events is_new is_memory) now m st =
@@ -45,7 +45,7 @@ firmware_made h ram events new memory (Publishes block rest held all is_events i
 
 -- the reader reads
 copies_made : (n : ℕ) (h : HandoverState) (ram : RamState) (m : Machine) (block : List ℕ) → h.situation ≡ Reading → h.at_work ≡ Some block → 64 * (h.copied + n) < length block → StandsFor h ram m →
-    Runs Reader (replicate n Copied) h ram (record h { copied = h.copied + n }) ram m
+    Runs Reader (replicate n Copied) (over h ram) (over (record h { copied = h.copied + n }) ram) m
 copies_made n h ram m block now is more st =
     let long : n ≡ length (replicate n Copied) = sym (length-replicate {A = Event} n Copied) in
     record {
@@ -56,7 +56,7 @@ copies_made n h ram m block now is more st =
     }
 
 takes_made : (n : ℕ) (h : HandoverState) (ram : RamState) (m : Machine) (block : List ℕ) → h.situation ≡ Reading → h.at_work ≡ Some block → 64 * (h.copied + n) < length block → length block ≤ 64 * (h.copied + suc n) → StandsFor h ram m →
-    Runs Reader (replicate n Copied ++ Took ∷ []) h ram (record h { copied = h.copied + suc n; last = block }) ram m
+    Runs Reader (replicate n Copied ++ Took ∷ []) (over h ram) (over (record h { copied = h.copied + suc n; last = block }) ram) m
 takes_made n h ram m block now is more all st =
     let a = length-append (replicate n Copied) (Took ∷ []) in
     let r = length-replicate {A = Event} n Copied in
@@ -73,7 +73,7 @@ same_block : (h : HandoverState) (ram : RamState) (m : Machine) (block : List �
 same_block h ram m block n now is more st = copies_over h ram block (64 * h.copied) (min (64 * n) (length block - 64 * h.copied)) now is more (omega (arith, more)) (m, st)
 
 pub reader_made : (h : HandoverState) (ram : RamState) (events : List Event) (new : HandoverState) (memory : RamState) → ReaderMakes h ram events new memory → h.situation ≡ Reading → (m : Machine) → StandsFor h ram m →
-    Runs Reader events h ram new memory m
+    Runs Reader events (over h ram) (over new memory) m
 reader_made h ram events new memory (Copies count block is more is_events is_new is_memory) now m st =
     let same = same_block h ram m block count now is (omega (arith, more)) st in
     let work : Some (read_over h.map ram block h.copied count) ≡ h.at_work = ap (λ (x : List ℕ). Some x) same ∙ sym is in
@@ -90,7 +90,7 @@ reader_made h ram events new memory (Clears block is all is_events is_new is_mem
     (run_one Reader Clear h (record h { situation = Cleared }) ram memory m (clears h ram memory m block now is all is_memory st))
 
 -- the firmware waits
-waits_by : (h : HandoverState) (ram : RamState) (m : Machine) (s : Situation) → h.situation ≡ s → (IsSet h.map ram → ⊥) → StandsFor h ram m → Turns Firmware Wait h ram h ram m
+waits_by : (h : HandoverState) (ram : RamState) (m : Machine) (s : Situation) → h.situation ≡ s → (IsSet h.map ram → ⊥) → StandsFor h ram m → Turns Firmware Wait (over h ram) (over h ram) m
 waits_by h ram m Filling is unset st = absurd (unset (acks_in h ram m Filling is st))
 waits_by h ram m Published is unset st = waits h ram m (inl is) st
 waits_by h ram m Reading is unset st = waits h ram m (inr (inl is)) st
@@ -98,25 +98,25 @@ waits_by h ram m Cleared is unset st = waits h ram m (inr (inr is)) st
 waits_by h ram m Acknowledged is unset st = absurd (unset (acks_in h ram m Acknowledged is st))
 
 -- the block at work is free
-frees_at : (b : Blocks) (ram : RamState) → b.at_work ≡ None → (m : Machine) → StandsFor (state_of Acknowledged b) ram m → Turns Firmware Free (state_of Acknowledged b) ram (state_of Filling b) ram m
+frees_at : (b : Blocks) (ram : RamState) → b.at_work ≡ None → (m : Machine) → StandsFor (state_of Acknowledged b) ram m → Turns Firmware Free (over (state_of Acknowledged b) ram) (over (state_of Filling b) ram) m
 frees_at b ram none m st =
     let h = state_of Acknowledged b in
     let same : in_work Acknowledged b.at_work b.last ≡ in_work Filling b.at_work b.last =
     ap (λ (o : Option (Vec ℕ Global)). in_work Acknowledged o b.last) none ∙ sym (ap (λ (o : Option (Vec ℕ Global)). in_work Filling o b.last) none) in
-    subst (λ (o : Option (List ℕ)). Turns Firmware Free h ram (record h { situation = Filling; at_work = o }) ram m) same (frees h ram m refl st)
+    subst (λ (o : Option (List ℕ)). Turns Firmware Free (over h ram) (over (record h { situation = Filling; at_work = o }) ram) m) same (frees h ram m refl st)
 
 acknowledges_at : (b : Blocks) (ram new : RamState) → b.at_work ≡ None → new ≡ with_ack b.map ram (acknowledged b.map (ack_read b.map ram)) → IsSet b.map new →
-    (m : Machine) → StandsFor (state_of Cleared b) ram m → Turns Reader Ack (state_of Cleared b) ram (state_of Acknowledged b) new m
+    (m : Machine) → StandsFor (state_of Cleared b) ram m → Turns Reader Ack (over (state_of Cleared b) ram) (over (state_of Acknowledged b) new) m
 acknowledges_at b ram new none memory set m st =
     let h = state_of Cleared b in
     let last : h.at_work ≡ Some b.last.items = ap (λ (o : Option (Vec ℕ Global)). in_work Cleared o b.last) none in
     let after : None ≡ in_work Acknowledged b.at_work b.last = sym (ap (λ (o : Option (Vec ℕ Global)). in_work Acknowledged o b.last) none) in
-    subst (λ (o : Option (List ℕ)). Turns Reader Ack h ram (record h { situation = Acknowledged; at_work = o }) new m) after
+    subst (λ (o : Option (List ℕ)). Turns Reader Ack (over h ram) (over (record h { situation = Acknowledged; at_work = o }) new) m) after
     (acknowledges h ram new m b.last.items refl last memory set st)
 
 -- where the acknowledge bits are set while the firmware waits, the reader looks, and no block is at work
 returned : (wait write : FirmwareEnd) (reader : ReaderEnd) (b : Blocks) (ram : RamState) (work : Option (Vec ℕ Global)) → b.at_work ≡ work → HasAckBits b.map → IsSet b.map ram → (m : Machine) → StandsFor (state_of (waiting_at reader work) b) ram m →
-    AreApart write reader × Turns Firmware Free (state_of (waiting_at reader work) b) ram (state_of Filling b) ram m
+    AreApart write reader × Turns Firmware Free (over (state_of (waiting_at reader work) b) ram) (over (state_of Filling b) ram) m
 returned wait (Writes write) (Looks look) b ram None is bits set m st = (tt, frees_at b ram is m st)
 returned wait (Waits write) (Looks look) b ram None is bits set m st = (tt, frees_at b ram is m st)
 returned wait write (Looks look) b ram (Some block) is bits set m st = absurd (set_and_clear b.map ram bits set (acks_in (state_of Published b) ram m Published refl st))
@@ -126,7 +126,7 @@ returned wait write (Acknowledges end) b ram work is bits set m st = absurd (set
 -- both sides after turns of one of them
 pub record SideDone (side : Side) (events : List Event) (ends next : Ends) (old new : Blocks) (ram memory : RamState) : Type 0 where
   pub consistent : IsConsistent next new
-  pub turns : (m : Machine) → StandsFor (handover_of ends old) ram m → Runs side events (handover_of ends old) ram (handover_of next new) memory m
+  pub turns : (m : Machine) → StandsFor (handover_of ends old) ram m → Runs side events (over (handover_of ends old) ram) (over (handover_of next new) memory) m
 
 -- it has the same blocks and memory
 done_as : (side : Side) (events others : List Event) (ends next : Ends) (old new after : Blocks) (ram memory left : RamState) → events ≡ others → new ≡ after → memory ≡ left → SideDone side others ends next old after ram left →
@@ -160,7 +160,7 @@ moved ends next b new all same room apart far = record {
 }
 
 pub firmware_done : (firmware end : FirmwareEnd) (reader : ReaderEnd) (b new : Blocks) (ram memory : RamState) (events : List Event) → IsConsistent (record { firmware = firmware; reader = reader }) b → HasRoom 0 new →
-    Stands (handover_of (record { firmware = firmware; reader = reader }) b) ram → FirmwareRuns firmware b ram events end new memory →
+    Stands (handover_of (record { firmware = firmware; reader = reader }) b) ram → FirmwareRuns firmware (over b ram) events end (over new memory) →
     SideDone Firmware events (record { firmware = firmware; reader = reader }) (record { firmware = end; reader = reader }) b new ram memory
 firmware_done (Writes write) (Writes later) (Looks look) b new ram memory events all room stands makes = record {
   consistent = moved (record { firmware = Writes write; reader = Looks look }) (record { firmware = Writes later; reader = Looks look }) b new all
@@ -173,7 +173,7 @@ firmware_done (Writes write) (Waits wait) (Looks look) b new ram memory events a
     record {
       consistent = moved (record { firmware = Writes write; reader = Looks look }) (record { firmware = Waits wait; reader = Looks look }) b new all
           (firmware_map (state_of Filling b) ram events (state_of Published new) memory makes) room tt tt;
-      turns = λ m st. subst (λ (s : Situation). Runs Firmware events (state_of Filling b) ram (state_of s new) memory m) is
+      turns = λ m st. subst (λ (s : Situation). Runs Firmware events (over (state_of Filling b) ram) (over (state_of s new) memory) m) is
           (firmware_made (state_of Filling b) ram events (state_of Published new) memory makes refl m st);
     }
 firmware_done (Writes write) end (Reads read) b new ram memory events all room stands makes = absurd all.apart
@@ -210,7 +210,7 @@ situation_at (Writes write) work = Filling
 situation_at (Waits wait) work = looking_at work
 
 nothing_by : (firmware : FirmwareEnd) (look : ReaderEnd) (b : Blocks) (ram : RamState) (work : Option (Vec ℕ Global)) → status_word b.map ram ≡ 0 → (m : Machine) → StandsFor (state_of (situation_at firmware work) b) ram m →
-    Turns Reader Nothing (state_of (situation_at firmware work) b) ram (state_of (situation_at firmware work) b) ram m
+    Turns Reader Nothing (over (state_of (situation_at firmware work) b) ram) (over (state_of (situation_at firmware work) b) ram) m
 nothing_by (Writes write) look b ram work none m st = finds_nothing (state_of Filling b) ram m (inl refl) st
 nothing_by (Waits wait) look b ram None none m st = finds_nothing (state_of Acknowledged b) ram m (inr refl) st
 nothing_by (Waits wait) look b ram (Some block) none m st = absurd (let some = some_status (state_of Published b) ram m refl st in omega (arith, some, none))
@@ -219,7 +219,7 @@ nothing_by (Waits wait) look b ram (Some block) none m st = absurd (let some = s
 record IsFound (firmware : FirmwareEnd) (read : ReaderEnd) (b : Blocks) (ram : RamState) (m : Machine) (s : Situation) : Type 0 where
   apart : AreApart firmware read
   far : IsCopiedSoFar 0 b.at_work b.last
-  turns : Turns Reader Found (state_of s b) ram (state_of Reading (record b { copied = 0 })) ram m
+  turns : Turns Reader Found (over (state_of s b) ram) (over (state_of Reading (record b { copied = 0 })) ram) m
 
 found_by : (firmware : FirmwareEnd) (read : ReaderEnd) (b : Blocks) (ram : RamState) (work : Option (Vec ℕ Global)) → b.at_work ≡ work → 0 < status_word b.map ram → (m : Machine) → StandsFor (state_of (situation_at firmware work) b) ram m →
     IsFound firmware read b ram m (situation_at firmware work)
@@ -231,11 +231,11 @@ found_by (Waits wait) read b ram (Some block) is some m st =
     record {
       apart = tt;
       far = none_copied b block is (work_fits (state_of Published b) ram m block.items old st).head;
-      turns = subst (λ (o : Option (List ℕ)). Turns Reader Found (state_of Published b) ram (record (state_of Reading b) { copied = 0; at_work = o }) ram m) (old ∙ sym new) (finds (state_of Published b) ram m refl st);
+      turns = subst (λ (o : Option (List ℕ)). Turns Reader Found (over (state_of Published b) ram) (over (record (state_of Reading b) { copied = 0; at_work = o }) ram) m) (old ∙ sym new) (finds (state_of Published b) ram m refl st);
     }
 
 pub reader_done : (firmware : FirmwareEnd) (reader end : ReaderEnd) (b new : Blocks) (ram memory : RamState) (events : List Event) → IsConsistent (record { firmware = firmware; reader = reader }) b → HasRoom 0 new →
-    Stands (handover_of (record { firmware = firmware; reader = reader }) b) ram → ReaderRuns reader b ram events end new memory → GoesOn reader end new →
+    Stands (handover_of (record { firmware = firmware; reader = reader }) b) ram → ReaderRuns reader (over b ram) events end (over new memory) → GoesOn reader end new →
     SideDone Reader events (record { firmware = firmware; reader = reader }) (record { firmware = firmware; reader = end }) b new ram memory
 reader_done (Writes write) (Looks look) (Looks later) b new ram memory events all room stands (found, is_memory) goes =
     done_as Reader events (Nothing ∷ []) (record { firmware = Writes write; reader = Looks look }) (record { firmware = Writes write; reader = Looks later }) b new b ram memory ram found.1 found.2 is_memory
@@ -273,7 +273,7 @@ reader_done (Waits wait) (Acknowledges acknowledge) (Looks look) b new ram memor
     done_as Reader events (Ack ∷ []) (record { firmware = Waits wait; reader = Acknowledges acknowledge }) (record { firmware = Waits wait; reader = Looks look }) b new b ram memory memory is_events is_new refl
     (record {
       consistent = moved (record { firmware = Waits wait; reader = Acknowledges acknowledge }) (record { firmware = Waits wait; reader = Looks look }) b b all refl all.room tt tt;
-      turns = λ m st. subst (λ (s : Situation). Runs Reader (Ack ∷ []) (state_of Cleared b) ram (state_of s b) memory m) (sym (ap looking_at all.far))
+      turns = λ m st. subst (λ (s : Situation). Runs Reader (Ack ∷ []) (over (state_of Cleared b) ram) (over (state_of s b) memory) m) (sym (ap looking_at all.far))
           (run_one Reader Ack (state_of Cleared b) (state_of Acknowledged b) ram memory m (acknowledges_at b ram memory all.far is_memory (set all.bits) m st));
     })
 reader_done (Waits wait) (Acknowledges acknowledge) (Reads read) b new ram memory events all room stands (looks, is_events, is_new, is_memory, set) goes = absurd looks

@@ -10,7 +10,7 @@ use Rattle.ghes_ack.specs.declared.events.Event.TheVariants.{Idle, Fill, Copied,
 use Rattle.ghes_ack.specs.Machine.{Machine, Filling, Reading, with_piece, with_pieces, turned, turned_times, events_of_times}
 use Rattle.ghes_ack.specs.Maps.{HasWindows, window, window_of, with_window, memory_after, AreLeft}
 use Rattle.ghes_ack.specs.Elsewhere.{SameWhere, IsOffBlock}
-use Rattle.ghes_ack.specs.Handovers.{HandoverState, kept, StandsFor, AreTurned}
+use Rattle.ghes_ack.specs.Handovers.{HandoverState, kept, StandsFor, AreTurned, over}
 use Rattle.ghes_ack.specs.Sides.{Turns, Runs, MakesTurns}
 use Rattle.ghes_ack.proofs.MemoryLemmas.{has_block, length-window, window-with_window}
 use Rattle.ghes_ack.proofs.PieceLemmas.{length-with_piece}
@@ -19,7 +19,7 @@ use Rattle.ghes_ack.proofs.TurnLemmas.{next_fits, written_only, fills, copies_mo
 use Rattle.ghes_ack.proofs.ElsewhereLemmas.{SameWhere-refl, SameWhere-then, elsewhere_left}
 
 -- one turn is a run
-pub run_one : (side : Side) (event : Event) (h after : HandoverState) (ram memory : RamState) (m : Machine) → Turns side event h ram after memory m → Runs side (event ∷ []) h ram after memory m
+pub run_one : (side : Side) (event : Event) (h after : HandoverState) (ram memory : RamState) (m : Machine) → Turns side event (over h ram) (over after memory) m → Runs side (event ∷ []) (over h ram) (over after memory) m
 run_one side event h after ram memory m t = record {
   turned = record { events_are = ap (λ (e : Event). e ∷ []) t.turned.event_is; stands = t.turned.stands };
   map = t.map;
@@ -41,7 +41,7 @@ taken_noted n events rest some is =
 -- the firmware fills one piece more than n, one after another
 pub fills_run : (n : ℕ) (h : HandoverState) (ram new : RamState) (m : Machine) (block : List ℕ) (rest : List (List ℕ)) → h.situation ≡ Filling → kept h ≡ block ∷ rest → 64 * (h.filled + n) < length block →
     new ≡ with_window h.map ram (with_pieces (window h.map ram) block h.filled (suc n)) → StandsFor h ram m →
-    Runs Firmware (replicate (suc n) Fill) h ram (record h { waiting = rest; at_work = Some block; filled = h.filled + suc n }) new m
+    Runs Firmware (replicate (suc n) Fill) (over h ram) (over (record h { waiting = rest; at_work = Some block; filled = h.filled + suc n }) new) m
 fills_run zero h ram new m block rest now held more memory st =
     run_one Firmware Fill h (record h { waiting = rest; at_work = Some block; filled = h.filled + 1 }) ram new m (fills h ram new m block rest now held (omega (arith, more)) memory st)
 fills_run (suc n) h ram new m block rest now held more memory st =
@@ -135,11 +135,11 @@ events_more side (suc a) b m =
     let e : suc a + b ≡ suc (a + b) = omega arith in
     ap (λ (k : ℕ). events_of_times side k m) e ∙ ap (λ (es : List Event). (turned side m).0 ∷ es) (events_more side a b (turned side m).1)
 
-pub no_turns : (side : Side) (h : HandoverState) (ram : RamState) (m : Machine) → StandsFor h ram m → MakesTurns side [] h ram h ram m
+pub no_turns : (side : Side) (h : HandoverState) (ram : RamState) (m : Machine) → StandsFor h ram m → MakesTurns side [] (over h ram) (over h ram) m
 no_turns side h ram m st = record { turned = record { events_are = refl; stands = st }; map = refl; left = refl; elsewhere = SameWhere-refl (IsOffBlock h.map) ram }
 
-pub turns_then : (side : Side) (first others : List Event) (h between after : HandoverState) (ram memory new : RamState) (m : Machine) → StandsFor h ram m → MakesTurns side first h ram between memory m →
-    Runs side others between memory after new (turned_times side (length first) m) → MakesTurns side (first ++ others) h ram after new m
+pub turns_then : (side : Side) (first others : List Event) (h between after : HandoverState) (ram memory new : RamState) (m : Machine) → StandsFor h ram m → MakesTurns side first (over h ram) (over between memory) m →
+    Runs side others (over between memory) (over after new) (turned_times side (length first) m) → MakesTurns side (first ++ others) (over h ram) (over after new) m
 turns_then side first others h between after ram memory new m st a b =
     let n = length-append first others in
     let windows : HasWindows between.map new = subst (λ at. HasWindows at new) b.map b.turned.stands.windows in

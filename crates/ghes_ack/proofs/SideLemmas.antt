@@ -18,7 +18,7 @@ use Rattle.ghes_ack.specs.WindowQueues.{held_of, HoldsNone, TakesOut}
 use Rattle.ghes_ack.specs.Queues.{Blocks}
 use Rattle.ghes_ack.specs.Machine.{Situation, Filling, Published, Reading, Cleared, Fits, with_piece, with_pieces, with_status}
 use Rattle.ghes_ack.specs.Maps.{window, window_of, ack_read, with_window, with_ack, with_clear, IsClear}
-use Rattle.ghes_ack.specs.Handovers.{HandoverOver, kept}
+use Rattle.ghes_ack.specs.Handovers.{HandoverOver, kept, over}
 use Rattle.ghes_ack.specs.Sides.{state_of, in_work, IsCopiedSoFar}
 use Rattle.ghes_ack.specs.OwnTurns.{FirmwareMakes, FirmwareRuns, firmware_at, Idles, Fills, Publishes, read_over, ReaderMakes, Copies, Takes, Clears}
 use Rattle.ghes_ack.proofs.RunLemmas.{noted, taken_noted}
@@ -44,8 +44,8 @@ in_hand b t block s filled other out same =
 
 -- turns of a firmware that may write
 pub writes_run : (end after : FirmwareEnd) (write : MayWrite) (old new : Blocks) (ram memory : RamState) (events : List Event) → end ≡ Writes write
-    → FirmwareMakes (state_of Filling old) ram events (state_of (firmware_at after) new) memory → FirmwareRuns end old ram events after new memory
-writes_run end after write old new ram memory events is made = subst (λ (e : FirmwareEnd). FirmwareRuns e old ram events after new memory) (sym is) made
+    → FirmwareMakes (state_of Filling old) ram events (state_of (firmware_at after) new) memory → FirmwareRuns end (over old ram) events after (over new memory)
+writes_run end after write old new ram memory events is made = subst (λ (e : FirmwareEnd). FirmwareRuns e (over old ram) events after (over new memory)) (sym is) made
 
 -- there is none
 none_held : (work : Option (Vec ℕ Global)) (last : Vec ℕ Global) (waiting : List (List ℕ)) → option_to_list (in_work Filling work last) ++ waiting ≡ [] → (in_work Filling work last ≡ None) × (waiting ≡ [])

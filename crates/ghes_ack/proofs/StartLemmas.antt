@@ -8,7 +8,7 @@ use Rattle.base_model.specs.Bytes.{spelled}
 use Rattle.base_model.proofs.BytesLemmas.{length-spelled}
 use Rattle.apei_space.specs.RamState.{RamState}
 use Rattle.ghes_block.specs.declared.error.BlockError.{BlockError}
-use Rattle.ghes_block.specs.Reading.{checked, head_verdict, status_at}
+use Rattle.ghes_block.specs.Reading.{checked, status_at}
 use Rattle.ghes_ack.specs.declared.maps.HandoverMap.{HandoverMap}
 use Rattle.ghes_ack.specs.declared.window.BlockWindow.{BlockWindow}
 use Rattle.ghes_ack.specs.declared.window_blocks.Blocks.{Blocks as BlocksOver}
@@ -78,7 +78,7 @@ begun at b ram new same e w is set =
 
 -- a block that was read whole has a head and is published
 pub checked_fits : (bytes : List ℕ) (n len : ℕ) → checked bytes ≡ Ok n → length bytes ≤ len → Fits len bytes
-unfolding checked head_verdict
+unfolding checked
 checked_fits bytes n len is room = go (nat_lt (length bytes) 20) (status_at bytes == 0) refl refl where
   go : (a b : Bool) → nat_lt (length bytes) 20 ≡ a → (status_at bytes == 0) ≡ b → Fits len bytes
   go true b e f = absurd (let x = rw e at is in cc)

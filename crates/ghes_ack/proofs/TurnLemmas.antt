@@ -12,7 +12,7 @@ use Rattle.ghes_ack.specs.declared.events.Event.{Event}
 use Rattle.ghes_ack.specs.declared.events.Event.TheVariants.{Idle, Fill, Publish, Free, Wait, Nothing, Found, Copied, Took, Clear, Ack}
 use Rattle.ghes_ack.specs.Machine.{Machine, Situation, Filling, Published, Reading, Cleared, Acknowledged, Fits, with_piece, with_status, Turned, turned}
 use Rattle.ghes_ack.specs.Maps.{HasAckBits, HasWindows, window, status_word, address_in, ack_read, ack_mask, with_window, with_ack, with_clear, acknowledged, memory_after, IsSet, IsClear}
-use Rattle.ghes_ack.specs.Handovers.{HandoverState, kept, AcksAre, StandsFor}
+use Rattle.ghes_ack.specs.Handovers.{HandoverState, kept, AcksAre, StandsFor, over}
 use Rattle.ghes_ack.specs.Sides.{Turns, Stands}
 use Rattle.ghes_ack.proofs.MachineTurns as machine
 use Rattle.ghes_ack.specs.Kept.{Kept, Agrees, kept_over}
@@ -66,7 +66,7 @@ set_and_clear at ram bits set clear = let some = bits.some in let e : ack_mask a
 
 -- a turn that the machine makes so: what it keeps then, and what the memory is
 turns : (side : Side) (event : Event) (h after : HandoverState) (ram memory : RamState) (bytes : List ℕ) (m : Machine) → Next side event (kept_with after bytes) m → bytes ≡ window after.map memory → after.map ≡ h.map →
-    memory ≡ memory_after h.map event ram (window h.map memory) → HasWindows after.map memory → address_in after.map memory ≡ after.map.block → AcksAre after.situation after.map memory → Turns side event h ram after memory m
+    memory ≡ memory_after h.map event ram (window h.map memory) → HasWindows after.map memory → address_in after.map memory ≡ after.map.block → AcksAre after.situation after.map memory → Turns side event (over h ram) (over after memory) m
 turns side event h after ram memory bytes m next seen same memory_is windows address acks =
     let e : (turned side m).1 ≡ next.machine = ap (λ (t : Turned). t.1) next.is in
     record {
@@ -80,7 +80,7 @@ turns side event h after ram memory bytes m next seen same memory_is windows add
 
 -- a turn that leaves the memory
 stays : (side : Side) (event : Event) (h after : HandoverState) (ram : RamState) (m : Machine) → Next side event (kept_with after (window after.map ram)) m → after.map ≡ h.map → ram ≡ memory_after h.map event ram (window h.map ram) →
-    HasWindows after.map ram → address_in after.map ram ≡ after.map.block → AcksAre after.situation after.map ram → Turns side event h ram after ram m
+    HasWindows after.map ram → address_in after.map ram ≡ after.map.block → AcksAre after.situation after.map ram → Turns side event (over h ram) (over after ram) m
 stays side event h after ram m next same is windows address acks = turns side event h after ram ram (window after.map ram) m next refl same is windows address acks
 
 -- a write of the window and nothing else
@@ -97,12 +97,12 @@ same_address map ram new bytes w n is = ap (address_in map) is ∙ address-with_
 pub next_fits : (h : HandoverState) (ram : RamState) (m : Machine) (block : List ℕ) (rest : List (List ℕ)) → kept h ≡ block ∷ rest → StandsFor h ram m → Fits h.map.len block
 next_fits h ram m block rest held st = (machine.oldest (kept_with h (window h.map ram)) m block rest held (agrees h ram m st)).fits
 
-pub idles : (h : HandoverState) (ram : RamState) (m : Machine) → h.situation ≡ Filling → kept h ≡ [] → StandsFor h ram m → Turns Firmware Idle h ram h ram m
+pub idles : (h : HandoverState) (ram : RamState) (m : Machine) → h.situation ≡ Filling → kept h ≡ [] → StandsFor h ram m → Turns Firmware Idle (over h ram) (over h ram) m
 idles h ram m now none st = stays Firmware Idle h h ram m (machine.idles (kept_with h (window h.map ram)) m now none (agrees h ram m st)) refl refl st.windows st.address st.acks
 
 pub fills : (h : HandoverState) (ram new : RamState) (m : Machine) (block : List ℕ) (rest : List (List ℕ)) → h.situation ≡ Filling → kept h ≡ block ∷ rest → 64 * h.filled < length block →
     new ≡ with_window h.map ram (with_piece (window h.map ram) block h.filled) → StandsFor h ram m →
-    Turns Firmware Fill h ram (record h { waiting = rest; at_work = Some block; filled = h.filled + 1 }) new m
+    Turns Firmware Fill (over h ram) (over (record h { waiting = rest; at_work = Some block; filled = h.filled + 1 }) new) m
 fills h ram new m block rest now held more memory st =
     let w = st.windows in
     let fits = (next_fits h ram m block rest held st).fits in
@@ -117,7 +117,7 @@ fills h ram new m block rest now held more memory st =
 -- a block all of whose pieces are filled is published
 pub publishes : (h : HandoverState) (ram new : RamState) (m : Machine) (block : List ℕ) (rest : List (List ℕ)) → h.situation ≡ Filling → kept h ≡ block ∷ rest → length block ≤ 64 * h.filled →
     new ≡ with_window h.map (with_ack h.map ram (with_clear h.map (ack_read h.map ram))) (with_status (window h.map ram) (take 4 block)) → IsClear h.map new → StandsFor h ram m →
-    Turns Firmware Publish h ram (record h { waiting = rest; at_work = Some block; filled = 0; situation = Published }) new m
+    Turns Firmware Publish (over h ram) (over (record h { waiting = rest; at_work = Some block; filled = 0; situation = Published }) new) m
 publishes h ram new m block rest now held none memory clear st =
     let head = (next_fits h ram m block rest held st).head in
     let four : length (take 4 block) ≡ 4 = length-take 4 block ∙ omega (arith, head) in
@@ -130,24 +130,24 @@ publishes h ram new m block rest now held none memory clear st =
     (windows_window h.map (with_ack h.map ram value) new (with_status (window h.map ram) (take 4 block)) memory wide before)
     (same_address h.map (with_ack h.map ram value) new (with_status (window h.map ram) (take 4 block)) before wide memory ∙ address-with_ack h.map ram value st.windows ∙ st.address) clear
 
-pub waits : (h : HandoverState) (ram : RamState) (m : Machine) → (h.situation ≡ Published) ⊎ ((h.situation ≡ Reading) ⊎ (h.situation ≡ Cleared)) → StandsFor h ram m → Turns Firmware Wait h ram h ram m
+pub waits : (h : HandoverState) (ram : RamState) (m : Machine) → (h.situation ≡ Published) ⊎ ((h.situation ≡ Reading) ⊎ (h.situation ≡ Cleared)) → StandsFor h ram m → Turns Firmware Wait (over h ram) (over h ram) m
 waits h ram m held st = stays Firmware Wait h h ram m (machine.waits (kept_with h (window h.map ram)) m held (agrees h ram m st)) refl refl st.windows st.address st.acks
 
-pub frees : (h : HandoverState) (ram : RamState) (m : Machine) → h.situation ≡ Acknowledged → StandsFor h ram m → Turns Firmware Free h ram (record h { situation = Filling }) ram m
+pub frees : (h : HandoverState) (ram : RamState) (m : Machine) → h.situation ≡ Acknowledged → StandsFor h ram m → Turns Firmware Free (over h ram) (over (record h { situation = Filling }) ram) m
 frees h ram m now st =
     stays Firmware Free h (record h { situation = Filling }) ram m (machine.frees (kept_with h (window h.map ram)) m now (agrees h ram m st)) refl refl st.windows st.address (acks_in h ram m Acknowledged now st)
 
 pub no_status : (h : HandoverState) (ram : RamState) (m : Machine) → (h.situation ≡ Filling) ⊎ (h.situation ≡ Acknowledged) → StandsFor h ram m → status_word h.map ram ≡ 0
 no_status h ram m now st = machine.no_status (kept_with h (window h.map ram)) m now (agrees h ram m st)
 
-pub finds_nothing : (h : HandoverState) (ram : RamState) (m : Machine) → (h.situation ≡ Filling) ⊎ (h.situation ≡ Acknowledged) → StandsFor h ram m → Turns Reader Nothing h ram h ram m
+pub finds_nothing : (h : HandoverState) (ram : RamState) (m : Machine) → (h.situation ≡ Filling) ⊎ (h.situation ≡ Acknowledged) → StandsFor h ram m → Turns Reader Nothing (over h ram) (over h ram) m
 finds_nothing h ram m now st = stays Reader Nothing h h ram m (machine.finds_nothing (kept_with h (window h.map ram)) m now (agrees h ram m st)) refl refl st.windows st.address st.acks
 
 -- a published block shows its status
 pub some_status : (h : HandoverState) (ram : RamState) (m : Machine) → h.situation ≡ Published → StandsFor h ram m → 0 < status_word h.map ram
 some_status h ram m now st = machine.some_status (kept_with h (window h.map ram)) m (inl now) (agrees h ram m st)
 
-pub finds : (h : HandoverState) (ram : RamState) (m : Machine) → h.situation ≡ Published → StandsFor h ram m → Turns Reader Found h ram (record h { situation = Reading; copied = 0 }) ram m
+pub finds : (h : HandoverState) (ram : RamState) (m : Machine) → h.situation ≡ Published → StandsFor h ram m → Turns Reader Found (over h ram) (over (record h { situation = Reading; copied = 0 }) ram) m
 finds h ram m now st =
     stays Reader Found h (record h { situation = Reading; copied = 0 }) ram m (machine.finds (kept_with h (window h.map ram)) m now (agrees h ram m st)) refl refl st.windows st.address (acks_in h ram m Published now st)
 
@@ -164,17 +164,17 @@ pub copies_over : (h : HandoverState) (ram : RamState) (block : List ℕ) (at n 
 copies_over h ram block at n now is more inside (m, st) = machine.copies_over (kept_with h (window h.map ram)) m block h.waiting at n now (held_work h block is) more inside (agrees h ram m st)
 
 pub copies_more : (h : HandoverState) (ram : RamState) (m : Machine) (block : List ℕ) → h.situation ≡ Reading → h.at_work ≡ Some block → 64 * (h.copied + 1) < length block → StandsFor h ram m →
-    Turns Reader Copied h ram (record h { copied = h.copied + 1 }) ram m
+    Turns Reader Copied (over h ram) (over (record h { copied = h.copied + 1 }) ram) m
 copies_more h ram m block now is more st =
     stays Reader Copied h (record h { copied = h.copied + 1 }) ram m (machine.copies_more (kept_with h (window h.map ram)) m block h.waiting now (held_work h block is) more (agrees h ram m st)) refl refl st.windows st.address st.acks
 
 pub copies_last : (h : HandoverState) (ram : RamState) (m : Machine) (block : List ℕ) → h.situation ≡ Reading → h.at_work ≡ Some block → 64 * h.copied < length block → length block ≤ 64 * (h.copied + 1) → StandsFor h ram m →
-    Turns Reader Took h ram (record h { copied = h.copied + 1; last = block }) ram m
+    Turns Reader Took (over h ram) (over (record h { copied = h.copied + 1; last = block }) ram) m
 copies_last h ram m block now is more all st =
     stays Reader Took h (record h { copied = h.copied + 1; last = block }) ram m (machine.copies_last (kept_with h (window h.map ram)) m block h.waiting now (held_work h block is) more all (agrees h ram m st)) refl refl st.windows st.address st.acks
 
 pub clears : (h : HandoverState) (ram new : RamState) (m : Machine) (block : List ℕ) → h.situation ≡ Reading → h.at_work ≡ Some block → length block ≤ 64 * h.copied →
-    new ≡ with_window h.map ram (with_status (window h.map ram) (spelled 4 0)) → StandsFor h ram m → Turns Reader Clear h ram (record h { situation = Cleared }) new m
+    new ≡ with_window h.map ram (with_status (window h.map ram) (spelled 4 0)) → StandsFor h ram m → Turns Reader Clear (over h ram) (over (record h { situation = Cleared }) new) m
 clears h ram new m block now is all memory st =
     let w = st.windows in
     let wide = length-status h.map ram (spelled 4 0) (length-spelled 4 0) w in
@@ -185,7 +185,7 @@ clears h ram new m block now is all memory st =
     (same_clear h.map ram new (ap (ack_read h.map) memory ∙ ack-with_window h.map ram (with_status (window h.map ram) (spelled 4 0)) w wide) (acks_in h ram m Reading now st))
 
 pub acknowledges : (h : HandoverState) (ram new : RamState) (m : Machine) (block : List ℕ) → h.situation ≡ Cleared → h.at_work ≡ Some block →
-    new ≡ with_ack h.map ram (acknowledged h.map (ack_read h.map ram)) → IsSet h.map new → StandsFor h ram m → Turns Reader Ack h ram (record h { situation = Acknowledged; at_work = None }) new m
+    new ≡ with_ack h.map ram (acknowledged h.map (ack_read h.map ram)) → IsSet h.map new → StandsFor h ram m → Turns Reader Ack (over h ram) (over (record h { situation = Acknowledged; at_work = None }) new) m
 acknowledges h ram new m block now is memory set st =
     let value = acknowledged h.map (ack_read h.map ram) in
     turns Reader Ack h (record h { situation = Acknowledged; at_work = None }) ram new (window h.map ram) m

@@ -24,6 +24,14 @@ pub record HandoverOver (M : Type 0) : Type 0 where
 abbrev pub HandoverState : Type 0
 HandoverState = HandoverOver HandoverMap
 
+-- a handover, or its blocks, with the memory that it lies in
+pub record WithMemory (S : Type 0) : Type 0 where
+  pub state : S
+  pub memory : RamState
+
+abbrev pub over : {S : Type 0} → S → RamState → WithMemory S
+over state memory = record { state = state; memory = memory }
+
 -- right after a start
 abbrev pub fresh : {M : Type 0} → M → HandoverOver M
 fresh at = record { map = at; situation = Filling; waiting = []; at_work = None; filled = 0; copied = 0; last = [] }

@@ -17,7 +17,7 @@ use Rattle.ghes_ack.specs.WindowQueues.{held_of}
 use Rattle.ghes_ack.specs.Queues.{Blocks, HasRoom}
 use Rattle.ghes_ack.specs.Machine.{Situation, Filling, Published, Reading, Cleared, Acknowledged, Fits, with_pieces, with_status}
 use Rattle.ghes_ack.specs.Maps.{HasAckBits, HasWindows, IsSet, IsClear, ack_read, window, status_word, with_window, with_ack, with_clear, acknowledged}
-use Rattle.ghes_ack.specs.Handovers.{HandoverState, kept}
+use Rattle.ghes_ack.specs.Handovers.{HandoverState, WithMemory, kept}
 use Rattle.ghes_ack.specs.Sides.{IsFar, state_of}
 
 -- a side can make turns: the memory has the windows, and each block at work or waiting fits into the block's
@@ -53,9 +53,11 @@ abbrev pub FindsAck : HandoverMap → RamState → List Event → FirmwareEnd �
 FindsAck map ram events (Writes write) = IsSet map ram × (events ≡ Free ∷ [])
 FindsAck map ram events (Waits wait) = (¬ IsSet map ram) × (events ≡ Wait ∷ [])
 
-abbrev pub FirmwareRuns : FirmwareEnd → Blocks → RamState → List Event → FirmwareEnd → Blocks → RamState → Type 0
-FirmwareRuns (Writes write) old ram events end new memory = FirmwareMakes (state_of Filling old) ram events (state_of (firmware_at end) new) memory
-FirmwareRuns (Waits wait) old ram events end new memory = FindsAck old.map ram events end × (new ≡ old) × (memory ≡ ram)
+abbrev pub FirmwareRuns : FirmwareEnd → WithMemory Blocks → List Event → FirmwareEnd → WithMemory Blocks → Type 0
+FirmwareRuns (Writes write) old events end new =
+    FirmwareMakes (state_of Filling old.state) old.memory events (state_of (firmware_at end) new.state) new.memory
+FirmwareRuns (Waits wait) old events end new =
+    FindsAck old.state.map old.memory events end × (new.state ≡ old.state) × (new.memory ≡ old.memory)
 
 -- the situation that the reader's end leaves, from one in which it read
 abbrev pub reader_at : ReaderEnd → Situation
@@ -99,11 +101,14 @@ GoesOn (Looks look) end new = Unit {0}
 GoesOn (Reads read) end new = IsFar end new
 GoesOn (Acknowledges acknowledge) end new = Unit {0}
 
-abbrev pub ReaderRuns : ReaderEnd → Blocks → RamState → List Event → ReaderEnd → Blocks → RamState → Type 0
-ReaderRuns (Looks look) old ram events end new memory = FindsBlock old ram events end new × (memory ≡ ram)
-ReaderRuns (Reads read) old ram events end new memory = ReaderMakes (state_of Reading old) ram events (state_of (reader_at end) new) memory
-ReaderRuns (Acknowledges acknowledge) old ram events end new memory =
-    LooksAgain end × (events ≡ Ack ∷ []) × (new ≡ old) × (memory ≡ with_ack old.map ram (acknowledged old.map (ack_read old.map ram))) × (HasAckBits old.map → IsSet old.map memory)
+abbrev pub ReaderRuns : ReaderEnd → WithMemory Blocks → List Event → ReaderEnd → WithMemory Blocks → Type 0
+ReaderRuns (Looks look) old events end new = FindsBlock old.state old.memory events end new.state × (new.memory ≡ old.memory)
+ReaderRuns (Reads read) old events end new =
+    ReaderMakes (state_of Reading old.state) old.memory events (state_of (reader_at end) new.state) new.memory
+ReaderRuns (Acknowledges acknowledge) old events end new =
+    let map = old.state.map in
+    LooksAgain end × (events ≡ Ack ∷ []) × (new.state ≡ old.state)
+    × (new.memory ≡ with_ack map old.memory (acknowledged map (ack_read map old.memory))) × (HasAckBits map → IsSet map new.memory)
 
 -- a side can make turns: of the other side nothing is known
 abbrev pub SideIsAble : Side → Ends → Blocks → RamState → Type 0
@@ -111,7 +116,7 @@ SideIsAble Firmware ends b ram = IsAble b ram
 SideIsAble Reader ends b ram = IsAble b ram × IsFar ends.reader b
 
 -- turns of a side by its own end, the blocks and the memory. The other side stays where it is
-abbrev pub SideRuns : Side → Ends → Blocks → RamState → List Event → Ends → Blocks → RamState → Type 0
-SideRuns Firmware ends old ram events next new memory = FirmwareRuns ends.firmware old ram events next.firmware new memory × (next.reader ≡ ends.reader)
-SideRuns Reader ends old ram events next new memory =
-    ReaderRuns ends.reader old ram events next.reader new memory × GoesOn ends.reader next.reader new × (next.firmware ≡ ends.firmware)
+abbrev pub SideRuns : Side → Ends → WithMemory Blocks → List Event → Ends → WithMemory Blocks → Type 0
+SideRuns Firmware ends old events next new = FirmwareRuns ends.firmware old events next.firmware new × (next.reader ≡ ends.reader)
+SideRuns Reader ends old events next new =
+    ReaderRuns ends.reader old events next.reader new × GoesOn ends.reader next.reader new.state × (next.firmware ≡ ends.firmware)

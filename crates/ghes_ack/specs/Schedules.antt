@@ -7,7 +7,7 @@ use Rattle.ghes_ack.specs.declared.events.Event.{Event}
 use Rattle.ghes_ack.specs.declared.events.Event.TheVariants.{Idle, Fill, Publish, Free, Wait, Nothing, Found, Copied, Took, Clear, Ack}
 use Rattle.ghes_ack.specs.Machine.{Machine, Situation, Filling, Published, Reading, Cleared, Acknowledged, Fits, at_work, turned, started, submitted}
 use Rattle.ghes_ack.specs.Elsewhere.{SameInMap}
-use Rattle.ghes_ack.specs.Handovers.{HandoverState, StandsFor, IsTurned, AreTurned}
+use Rattle.ghes_ack.specs.Handovers.{HandoverState, WithMemory, StandsFor, IsTurned, AreTurned}
 
 -- what may happen to the machine
 pub data Step : Type 0 where
@@ -88,21 +88,17 @@ pub data Call : Type 0 where
   ManyTurns : Side → List Event → Call
   OthersWrite : Call
 
--- a handover with its memory
-abbrev pub Held : Type 0
-Held = HandoverState × RamState
-
 -- what each call is said to do
-abbrev pub Does : Call → Held → Held → Type 0
+abbrev pub Does : Call → WithMemory HandoverState → WithMemory HandoverState → Type 0
 Does (Submits block) old new =
-    (new.1 ≡ old.1) × ((ram : RamState) (m : Machine) → StandsFor old.0 ram m → StandsFor new.0 ram (submitted m block))
-Does (Turns side event) old new = (m : Machine) → StandsFor old.0 old.1 m → IsTurned side event new.0 new.1 m
-Does (ManyTurns side events) old new = (m : Machine) → StandsFor old.0 old.1 m → AreTurned side (length events) events new.0 new.1 m
-Does OthersWrite old new = (new.0 ≡ old.0) × SameInMap old.0.map old.1 new.1
+    (new.memory ≡ old.memory) × ((ram : RamState) (m : Machine) → StandsFor old.state ram m → StandsFor new.state ram (submitted m block))
+Does (Turns side event) old new = (m : Machine) → StandsFor old.state old.memory m → IsTurned side event new.state new.memory m
+Does (ManyTurns side events) old new = (m : Machine) → StandsFor old.state old.memory m → AreTurned side (length events) events new.state new.memory m
+Does OthersWrite old new = (new.state ≡ old.state) × SameInMap old.state.map old.memory new.memory
 
-abbrev pub DoAll : List Call → Held → Held → Type 0
+abbrev pub DoAll : List Call → WithMemory HandoverState → WithMemory HandoverState → Type 0
 DoAll [] first last = last ≡ first
-DoAll (call ∷ calls) first last = (between : Held) × Does call first between × DoAll calls between last
+DoAll (call ∷ calls) first last = (between : WithMemory HandoverState) × Does call first between × DoAll calls between last
 
 -- their submissions and turns, and the events of the turns
 abbrev pub steps_of : List Call → List Step
@@ -122,8 +118,8 @@ answers_of (OthersWrite ∷ calls) = answers_of calls
 -- after some calls from a start: the handover stands for the machine that made the same steps, it answered the machine's
 -- events, and what the reader copied out of the window are the first blocks of those submitted, as many as were taken, whole,
 -- each once, in order
-pub record HandsOver (window : List ℕ) (calls : List Call) (last : Held) : Type 0 where
-  pub stands : StandsFor last.0 last.1 (run (from_start window) (steps_of calls)).machine
+pub record HandsOver (window : List ℕ) (calls : List Call) (last : WithMemory HandoverState) : Type 0 where
+  pub stands : StandsFor last.state last.memory (run (from_start window) (steps_of calls)).machine
   pub events : answers_of calls ≡ events_of (from_start window) (steps_of calls)
   pub submitted : (run (from_start window) (steps_of calls)).machine.blocks ≡ submissions (steps_of calls)
   pub taken : (run (from_start window) (steps_of calls)).taken ≡ take (run (from_start window) (steps_of calls)).machine.taken (submissions (steps_of calls))

@@ -16,7 +16,7 @@ use Rattle.ghes_ack.specs.WindowQueues.{bytes_of}
 use Rattle.ghes_ack.specs.Queues.{Blocks, HasRoom}
 use Rattle.ghes_ack.specs.Machine.{Machine, Situation, Filling, Published, Reading, Cleared, Acknowledged}
 use Rattle.ghes_ack.specs.Maps.{HasAckBits, window, memory_after, AreLeft}
-use Rattle.ghes_ack.specs.Handovers.{HandoverOver, HandoverState, StandsFor, IsTurned, AreTurned}
+use Rattle.ghes_ack.specs.Handovers.{HandoverOver, HandoverState, WithMemory, StandsFor, IsTurned, AreTurned}
 
 -- while the firmware waits and the reader looks, there is a block at work until it is acknowledged
 abbrev pub looking_at : Option (Vec ℕ Global) → Situation
@@ -97,24 +97,24 @@ AreConsistent None b = ⊥
 AreConsistent (Some ends) b = IsConsistent ends b
 
 -- a turn, for each state that it stood for, and what it leaves of the memory
-pub record Turns (side : Side) (event : Event) (old : HandoverState) (ram : RamState) (after : HandoverState) (memory : RamState) (m : Machine) : Type 0 where
-  pub turned : IsTurned side event after memory m
-  pub map : after.map ≡ old.map
-  pub memory_is : memory ≡ memory_after old.map event ram (window old.map memory)
+pub record Turns (side : Side) (event : Event) (old new : WithMemory HandoverState) (m : Machine) : Type 0 where
+  pub turned : IsTurned side event new.state new.memory m
+  pub map : new.state.map ≡ old.state.map
+  pub memory_is : new.memory ≡ memory_after old.state.map event old.memory (window old.state.map new.memory)
 
 -- turns of a side, one after another, that leave of the memory what one of their first event leaves: one turn, or pieces
-pub record Runs (side : Side) (events : List Event) (old : HandoverState) (ram : RamState) (after : HandoverState) (memory : RamState) (m : Machine) : Type 0 where
-  pub turned : AreTurned side (length events) events after memory m
-  pub map : after.map ≡ old.map
-  pub memory_is : memory ≡ memory_after old.map (get_or events 0 Idle) ram (window old.map memory)
-  pub left : AreLeft old.map events ram memory
+pub record Runs (side : Side) (events : List Event) (old new : WithMemory HandoverState) (m : Machine) : Type 0 where
+  pub turned : AreTurned side (length events) events new.state new.memory m
+  pub map : new.state.map ≡ old.state.map
+  pub memory_is : new.memory ≡ memory_after old.state.map (get_or events 0 Idle) old.memory (window old.state.map new.memory)
+  pub left : AreLeft old.state.map events old.memory new.memory
 
 -- turns of a side, one after another
-pub record MakesTurns (side : Side) (events : List Event) (old : HandoverState) (ram : RamState) (after : HandoverState) (memory : RamState) (m : Machine) : Type 0 where
-  pub turned : AreTurned side (length events) events after memory m
-  pub map : after.map ≡ old.map
-  pub left : AreLeft old.map events ram memory
-  pub elsewhere : SameWhere (IsOffBlock old.map) ram memory
+pub record MakesTurns (side : Side) (events : List Event) (old new : WithMemory HandoverState) (m : Machine) : Type 0 where
+  pub turned : AreTurned side (length events) events new.state new.memory m
+  pub map : new.state.map ≡ old.state.map
+  pub left : AreLeft old.state.map events old.memory new.memory
+  pub elsewhere : SameWhere (IsOffBlock old.state.map) old.memory new.memory
 
 -- it stands for some state: this is its memory, which only it wrote
 abbrev pub Stands : HandoverState → RamState → Type 0

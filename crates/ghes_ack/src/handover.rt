@@ -5,7 +5,7 @@ ghost use Rattle.ghes_ack.specs.Machine.{Machine, started, submitted, waiting_in
 ghost use Rattle.ghes_ack.specs.Maps.{HasAckBits, HasWindows, window, memory_started, memory_after, AreLeft};
 ghost use Rattle.ghes_ack.specs.Elsewhere.{SameWhere, IsOffMap, IsOffBlock};
 ghost use Rattle.ghes_ack.specs.Sides.{Stands, Turns, MakesTurns};
-ghost use Rattle.ghes_ack.specs.Handovers.{StandsFor, IsTurned, AreTurned, fresh, refusal};
+ghost use Rattle.ghes_ack.specs.Handovers.{StandsFor, IsTurned, AreTurned, fresh, refusal, over};
 
 use crate::blocks::Blocks;
 use crate::ends::{Ends, ReaderEnd, begin_with_register};
@@ -106,7 +106,7 @@ impl Handover {
     fn move_piece(&mut self, side: Side, ram: &mut Ram) -> Option<Event>
         requires { Stands self.old ram.old }
         ensures { MatchOption result ((self.new ≡ self.old) × (ram.new ≡ ram.old)) (λ event. (m : Machine)
-            → StandsFor self.old ram.old m → Turns side event self.old ram.old self.new ram.new m) }
+            → StandsFor self.old ram.old m → Turns side event (over self.old ram.old) (over self.new ram.new) m) }
     {
         match &self.ends {
             Some(ends) => piece_turn(side, ends, &mut self.blocks, ram),
@@ -118,7 +118,7 @@ impl Handover {
     fn make_turns(&mut self, side: Side, events: &mut [Event], ram: &mut Ram)
         requires { Stands self.old ram.old }
         ensures { (m : Machine) → StandsFor self.old ram.old m
-            → MakesTurns side events.new self.old ram.old self.new ram.new m }
+            → MakesTurns side events.new (over self.old ram.old) (over self.new ram.new) m }
     {
         let Some(ends) = self.ends.take() else {
             unreachable!();

@@ -7,8 +7,8 @@ ghost use Rattle.ghes_ack.specs.declared.events.Event.TheVariants.{Took as OfToo
 ghost use Rattle.ghes_ack.specs.Machine.{Machine, Fits, IsState, turned, last_taken, started};
 ghost use Rattle.ghes_ack.specs.Maps.{HasWindows, ack_read, window, with_window, with_ack};
 ghost use Rattle.ghes_ack.specs.Elsewhere.{SameInMap};
-ghost use Rattle.ghes_ack.specs.Handovers.{HandoverState, StandsFor};
-ghost use Rattle.ghes_ack.specs.Schedules.{Step, run, from_start, AreFitting, AreInOrder, IsHeld, submissions, Call, Held, DoAll, HandsOver};
+ghost use Rattle.ghes_ack.specs.Handovers.{HandoverState, WithMemory, StandsFor};
+ghost use Rattle.ghes_ack.specs.Schedules.{Step, run, from_start, AreFitting, AreInOrder, IsHeld, submissions, Call, DoAll, HandsOver};
 
 /// Whatever is submitted, and whoever takes the turns: the machine stays in its five situations, and what the reader copied
 /// out of the window are the first blocks of those submitted, as many as were taken, whole, each once, in order.
@@ -33,8 +33,8 @@ pub fn nothing_while_held()
 /// others write elsewhere between them, the handover stands for the machine that made the same steps, and its turns answered
 /// the machine's events.
 pub fn every_list_of_calls()
-    ensures { (window : List ℕ) (calls : List Call) (first last : Held) →
-        StandsFor first.0 first.1 (started window) → DoAll calls first last → HandsOver window calls last }
+    ensures { (window : List ℕ) (calls : List Call) (first last : WithMemory HandoverState) →
+        StandsFor first.state first.memory (started window) → DoAll calls first last → HandsOver window calls last }
 {}
 
 /// What others write outside the three windows leaves the handover as it was.

@@ -2,7 +2,7 @@
 ghost use Rattle.std.specs.Prelude.{◌≡◌, ◌∷◌, [], ◌<◌, length, take, MatchOption};
 ghost use Rattle.ghes_ack.specs.Machine.{Machine};
 ghost use Rattle.ghes_ack.specs.Queues.{HasRoom};
-ghost use Rattle.ghes_ack.specs.Handovers.{StandsFor};
+ghost use Rattle.ghes_ack.specs.Handovers.{StandsFor, over};
 ghost use Rattle.ghes_ack.specs.Sides.{Stands, MakesTurns, IsConsistent, handover_of};
 ghost use Rattle.ghes_ack.specs.OwnTurns.{IsCount, SideIsAble, SideRuns};
 
@@ -19,7 +19,7 @@ pub fn piece_turn(side: Side, ends: &Ends, blocks: &mut Blocks, ram: &mut Ram) -
     ensures room { HasRoom 0 blocks.new }
     ensures runs { MatchOption result
         ((blocks.new ≡ blocks.old) × (ram.new ≡ ram.old))
-        (λ event. SideRuns side ends.now blocks.old ram.old (event ∷ []) ends.now blocks.new ram.new) }
+        (λ event. SideRuns side ends.now (over blocks.old ram.old) (event ∷ []) ends.now (over blocks.new ram.new)) }
 {
     match (side, &ends.firmware, &ends.reader) {
         (Side::Firmware, FirmwareEnd::Writes(write), _) => {
@@ -52,7 +52,8 @@ pub fn all_turns(
     requires stands { Stands (handover_of ends blocks.old) ram.old }
     ensures consistent { IsConsistent result blocks.new }
     ensures turns { (m : Machine) → StandsFor (handover_of ends blocks.old) ram.old m
-        → MakesTurns side events.new (handover_of ends blocks.old) ram.old (handover_of result blocks.new) ram.new m }
+        → MakesTurns side events.new (over (handover_of ends blocks.old) ram.old)
+        (over (handover_of result blocks.new) ram.new) m }
 {
     let mut stand = ends;
     let mut done: usize = 0;
@@ -77,7 +78,8 @@ fn run_of(
     requires some { 0 < length events.old }
     ensures room { HasRoom 0 blocks.new }
     ensures count { IsCount result.1 (length events.old) }
-    ensures runs { SideRuns side ends blocks.old ram.old (take result.1 events.new) result.0 blocks.new ram.new }
+    ensures runs { SideRuns side ends (over blocks.old ram.old) (take result.1 events.new) result.0
+        (over blocks.new ram.new) }
 {
     let Ends { firmware, reader } = ends;
     match side {

@@ -1,5 +1,5 @@
 -- The grammar of blocks and their reading agree, both ways.
-use Rattle.std.proofs.Common.{◌≡◌, ℕ, ◌+◌, ◌-◌, ◌<◌, ◌≤◌, ◌^◌, inl, inr, true, false, cond, List, [], ◌∷◌, ◌++◌, length, drop, map, get_or, Result, Ok, Err, refl, sym, ap, subst, ◌∙◌, arith, length-append, append_assoc}
+use Rattle.std.proofs.Common.{◌≡◌, ℕ, ◌+◌, ◌-◌, ◌<◌, ◌≤◌, ◌^◌, inl, inr, true, false, cond, if◌then◌else◌, List, [], ◌∷◌, ◌++◌, length, drop, map, get_or, Result, Ok, Err, refl, sym, ap, subst, ◌∙◌, arith, length-append, append_assoc}
 use Rattle.std.specs.Prelude.{◌==◌, nat_lt}
 use Rattle.std.proofs.lemmas.Bool.{cases_Bool, eqb-true, eqb-false, ltb-false, eq-eqb, ne_eqb, le-ltb, cond-true, cond-false}
 use Rattle.std.proofs.lemmas.List.{nil_from_length}
@@ -10,7 +10,7 @@ use Rattle.apei_bytes.proofs.Tests.{ok_unless}
 use Rattle.ghes_block.specs.declared.error.BlockError.{BlockError}
 use Rattle.ghes_block.specs.declared.error.BlockError.TheVariants.{Need, NotPublished, RawOffset}
 use Rattle.ghes_block.specs.Grammar.{BlockValue, entries_bytes, block_head, RawIs, IsBlock}
-use Rattle.ghes_block.specs.Reading.{entries_in, count_in, status_at, raw_offset, raw_length, data_length, data_of, entry_count, block_of, length_if_counted, length_if_there, head_verdict, checked}
+use Rattle.ghes_block.specs.Reading.{entries_in, count_in, status_at, raw_offset, raw_length, data_length, data_of, entry_count, block_of, length_if_there, checked}
 use Rattle.ghes_block.proofs.Walks.{counts, counts_again}
 
 -- how long the block is, by its head
@@ -34,6 +34,18 @@ record Judged (have status offset raw data_len : ℕ) (count : Result ℕ BlockE
   pub there : length_by offset raw data_len ≤ have
   pub counted_is : (n : ℕ) × (count ≡ Ok n)
   pub len_is : length_by offset raw data_len ≡ len
+
+-- the checks of a head, in their order
+unfoldable pub head_verdict : ℕ → ℕ → ℕ → ℕ → ℕ → Result ℕ BlockError → Result ℕ BlockError
+head_verdict have status offset raw data_len count =
+    if status == 0 then Err NotPublished
+    else if raw == 0 then length_if_there have (20 + data_len) count
+    else if nat_lt offset (20 + data_len) then Err (RawOffset offset)
+    else length_if_there have (offset + raw) count
+
+abbrev length_if_counted : ℕ → Result ℕ BlockError → Result ℕ BlockError
+length_if_counted len (Ok count) = Ok len
+length_if_counted len (Err error) = Err error
 
 is_counted : (n len : ℕ) (count : Result ℕ BlockError) → length_if_counted n count ≡ Ok len → ((m : ℕ) × (count ≡ Ok m)) × (n ≡ len)
 is_counted n len (Ok m) h = ((m, refl), cc)
@@ -64,7 +76,7 @@ is_judged have status offset raw data_len count len h =
     ]
 
 pub passed : (bytes : List ℕ) (len : ℕ) → checked bytes ≡ Ok len → Passed bytes × (block_length bytes ≡ len)
-unfolding checked
+unfolding checked head_verdict
 passed bytes len h =
     let a = ok_unless _ _ _ _ h in
     let j = is_judged (length bytes) (status_at bytes) (raw_offset bytes) (raw_length bytes) (data_length bytes) (entry_count bytes) len a.1 in
@@ -94,7 +106,7 @@ judges have status offset raw data_len count j =
     ]
 
 pub passes : (bytes : List ℕ) → Passed bytes → checked bytes ≡ Ok (block_length bytes)
-unfolding checked
+unfolding checked head_verdict
 passes bytes p =
     cond-false (nat_lt (length bytes) 20) (Err (Need (20 - length bytes))) _ (le-ltb (length bytes) 20 p.header)
     ∙ judges (length bytes) (status_at bytes) (raw_offset bytes) (raw_length bytes) (data_length bytes) (entry_count bytes)

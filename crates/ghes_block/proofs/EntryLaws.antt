@@ -5,15 +5,15 @@ use Rattle.base_model.specs.Bytes.{part, number_at, spelled, joined, total, AreB
 use Rattle.base_model.proofs.BytesLemmas.{length-spelled, spelled-number_at, number_at-lt, length-part, part-append, part-append_left, part-append_right, length-joined}
 use Rattle.apei_bytes.proofs.Parts.{parts, joined-parts, parts_of, number_of, part-first, part-second}
 use Rattle.ghes_block.specs.declared.entry.EntryHead.{EntryHead}
-use Rattle.ghes_block.specs.Grammar.{EntryValue, is_stamped, entry_front, stamp_bytes, entry_bytes, IsEntryHead, IsEntry}
-use Rattle.ghes_block.specs.Reading.{entry_size, stamp_at, entry_head_at, first_entry}
+use Rattle.ghes_block.specs.Grammar.{EntryValue, is_stamped, entry_front, entry_bytes, IsEntryHead, IsEntry}
+use Rattle.ghes_block.specs.Reading.{entry_size, entry_head_at, first_entry}
 
 abbrev pub front_sizes : List ℕ
 front_sizes = 16 ∷ 4 ∷ 2 ∷ 1 ∷ 1 ∷ 4 ∷ 16 ∷ 20 ∷ []
 
 pub front_sized : (head : EntryHead) (len : ℕ) → IsEntryHead head → map length (entry_front head len) ≡ front_sizes
 unfolding spelled
-front_sized head len is = rw (is.front.kind, is.front.fru, is.front.fru_text) refl
+front_sized head len is = rw (is.kind, is.fru, is.fru_text) refl
 
 pub length-front : (head : EntryHead) (len : ℕ) → IsEntryHead head → length (joined (entry_front head len)) ≡ 64
 length-front head len is = length-joined (entry_front head len) ∙ ap total (front_sized head len is)
@@ -22,6 +22,12 @@ abbrev pub size_by : Bool → ℕ
 size_by stamped = cond stamped 72 64
 
 -- a timestamp and data behind 64 bytes
+abbrev pub stamp_bytes : Bool → ℕ → List ℕ
+stamp_bytes stamped stamp = cond stamped (spelled 8 stamp) []
+
+abbrev stamp_at : Bool → List ℕ → ℕ
+stamp_at stamped bytes = cond stamped (number_at bytes 64 8) 0
+
 record Behind (b : Bool) (stamp : ℕ) (body content : List ℕ) : Type 0 where
   pub stamp_is : stamp_at b content ≡ stamp
   pub body_is : part content (size_by b) (length body) ≡ body
@@ -82,10 +88,10 @@ reads_again entry content more is e =
     let fields : parts front_sizes 0 content ≡ entry_front head (length body) =
     parts_of (entry_front head (length body)) front_sizes (stamp ++ (body ++ more)) content (front_sized head (length body) is.head) split in
     let field = λ (k : ℕ). ap (λ (xss : List (List ℕ)). get_or xss k []) fields in
-    let severity = number_of content 16 4 head.severity (field 1) is.head.front.severity in
-    let revision = number_of content 20 2 head.revision (field 2) is.head.front.revision in
-    let validation = number_of content 22 1 head.validation (field 3) is.head.front.validation in
-    let flags = number_of content 23 1 head.flags (field 4) is.head.front.flags in
+    let severity = number_of content 16 4 head.severity (field 1) is.head.severity in
+    let revision = number_of content 20 2 head.revision (field 2) is.head.revision in
+    let validation = number_of content 22 1 head.validation (field 3) is.head.validation in
+    let flags = number_of content 23 1 head.flags (field 4) is.head.flags in
     let len = number_of content 24 4 (length body) (field 5) is.short in
     let rest = behind (is_stamped head.revision) front head.stamp body more content size is.head.stamp is.head.no_stamp e in
     let stamp_is = rest.stamp_is in
@@ -146,15 +152,13 @@ reads content h long fits =
     record {
       is_entry = record {
         head = record {
-          front = record {
-            kind = length-part content 0 16 (omega arith);
-            severity = number_at-lt content 16 4 h (omega arith);
-            revision = number_at-lt content 20 2 h (omega arith);
-            validation = number_at-lt content 22 1 h (omega arith);
-            flags = number_at-lt content 23 1 h (omega arith);
-            fru = length-part content 28 16 (omega arith);
-            fru_text = length-part content 44 20 (omega arith);
-          };
+          kind = length-part content 0 16 (omega arith);
+          severity = number_at-lt content 16 4 h (omega arith);
+          revision = number_at-lt content 20 2 h (omega arith);
+          validation = number_at-lt content 22 1 h (omega arith);
+          flags = number_at-lt content 23 1 h (omega arith);
+          fru = length-part content 28 16 (omega arith);
+          fru_text = length-part content 44 20 (omega arith);
           stamp = stamp_small b content h head_fits;
           no_stamp = no_stamp_at b content;
         };

@@ -12,17 +12,17 @@ use Rattle.ghes_block.specs.declared.entry.EntryHead.{EntryHead}
 use Rattle.ghes_block.specs.declared.error.BlockError.{BlockError}
 use Rattle.ghes_block.specs.declared.error.BlockError.TheVariants.{Need, NotPublished, RawOffset}
 use Rattle.ghes_block.specs.Grammar.{EntryValue, BlockValue, entry_bytes, entries_bytes, IsEntry, IsBlock}
-use Rattle.ghes_block.specs.Reading.{head_size, entry_size, entry_head_at, first_entry, count_in, status_at, raw_offset, raw_length, data_length, data_of, entry_count, block_of, length_if_there, head_verdict, checked, IsWhole, IsReadBlock}
+use Rattle.ghes_block.specs.Reading.{head_size, entry_size, entry_head_at, first_entry, count_in, status_at, raw_offset, raw_length, data_length, data_of, entry_count, block_of, length_if_there, checked, IsWhole, IsReadBlock}
 use Rattle.ghes_block.specs.Entries.{place_of, HasHead, IsPlace, EntryAt, RestAt}
 use Rattle.ghes_block.proofs.Walks.{counts, first_of}
-use Rattle.ghes_block.proofs.Blocks.{Passed, passed, passes, block_length, passed_front, same_count, entries_within, is_block, found_again, reads_again}
+use Rattle.ghes_block.proofs.Blocks.{head_verdict, Passed, passed, passes, block_length, passed_front, same_count, entries_within, is_block, found_again, reads_again}
 
 pub at_short : (bytes : List ℕ) → length bytes < 20 → checked bytes ≡ Err (Need (20 - length bytes))
-unfolding checked
+unfolding checked head_verdict
 at_short bytes h = cond-true (nat_lt (length bytes) 20) _ _ (lt-ltb (length bytes) 20 h)
 
 long : (bytes : List ℕ) → 20 ≤ length bytes → checked bytes ≡ head_verdict (length bytes) (status_at bytes) (raw_offset bytes) (raw_length bytes) (data_length bytes) (entry_count bytes)
-unfolding checked
+unfolding checked head_verdict
 long bytes h = cond-false (nat_lt (length bytes) 20) (Err (Need (20 - length bytes))) _ (le-ltb (length bytes) 20 h)
 
 pub at_zero : (bytes : List ℕ) → 20 ≤ length bytes → status_at bytes ≡ 0 → checked bytes ≡ Err NotPublished

@@ -34,18 +34,17 @@ entry_front head len =
     ∷ head.fru_text
     ∷ []
 
-abbrev pub stamp_bytes : Bool → ℕ → List ℕ
-stamp_bytes stamped stamp = if stamped then spelled 8 stamp else []
-
 -- an entry's bytes: the head, the timestamp where there is one, the data
 unfoldable pub entry_bytes : EntryValue → List ℕ
-entry_bytes entry = joined (entry_front entry.head (length entry.body)) ++ stamp_bytes (is_stamped entry.head.revision) entry.head.stamp ++ entry.body
+entry_bytes entry =
+    joined (entry_front entry.head (length entry.body))
+    ++ (if is_stamped entry.head.revision then spelled 8 entry.head.stamp else []) ++ entry.body
 
 unfoldable pub entries_bytes : List EntryValue → List ℕ
 entries_bytes entries = flat_map entry_bytes entries
 
--- each number of an entry's head fits its field, and each array has its length, but for the timestamp
-pub record FrontFits (head : EntryHead) : Type 0 where
+-- each number of an entry's head fits its field, and each array has its length. The timestamp is 0 where the entry has none
+pub record IsEntryHead (head : EntryHead) : Type 0 where
   pub kind : length head.kind ≡ 16
   pub severity : head.severity < 2 ^ 32
   pub revision : head.revision < 2 ^ 16
@@ -53,10 +52,6 @@ pub record FrontFits (head : EntryHead) : Type 0 where
   pub flags : head.flags < 2 ^ 8
   pub fru : length head.fru ≡ 16
   pub fru_text : length head.fru_text ≡ 20
-
--- so does the timestamp, which is 0 where the entry has none
-pub record IsEntryHead (head : EntryHead) : Type 0 where
-  pub front : FrontFits head
   pub stamp : head.stamp < 2 ^ 64
   pub no_stamp : is_stamped head.revision ≡ false → head.stamp ≡ 0
 

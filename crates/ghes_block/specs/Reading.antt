@@ -1,5 +1,5 @@
 -- What is read at the front of bytes, and why nothing is.
-use Rattle.std.specs.Prelude.{◌≡◌, ℕ, ◌+◌, ◌-◌, List, length, Bool, ◌==◌, nat_lt, if◌then◌else◌, Result, Ok, Err}
+use Rattle.std.specs.Prelude.{◌≡◌, ℕ, ◌+◌, ◌-◌, List, length, ◌==◌, nat_lt, if◌then◌else◌, Result, Ok, Err}
 use Rattle.base_model.specs.Bytes.{part, number_at, AreBytes}
 use Rattle.apei_bytes.specs.Walk.{Walk, items_in, item_count}
 use Rattle.ghes_block.specs.declared.entry.EntryHead.{EntryHead}
@@ -14,12 +14,18 @@ head_size bytes = if is_stamped (number_at bytes 20 2) then 72 else 64
 abbrev pub entry_size : List ℕ → ℕ
 entry_size bytes = head_size bytes + number_at bytes 24 4
 
-abbrev pub stamp_at : Bool → List ℕ → ℕ
-stamp_at stamped bytes = if stamped then number_at bytes 64 8 else 0
-
 -- the fields at their places in an entry
 abbrev pub entry_head_at : List ℕ → EntryHead
-entry_head_at bytes = record { kind = part bytes 0 16; severity = number_at bytes 16 4; revision = number_at bytes 20 2; validation = number_at bytes 22 1; flags = number_at bytes 23 1; fru = part bytes 28 16; fru_text = part bytes 44 20; stamp = stamp_at (is_stamped (number_at bytes 20 2)) bytes }
+entry_head_at bytes = record {
+  kind = part bytes 0 16;
+  severity = number_at bytes 16 4;
+  revision = number_at bytes 20 2;
+  validation = number_at bytes 22 1;
+  flags = number_at bytes 23 1;
+  fru = part bytes 28 16;
+  fru_text = part bytes 44 20;
+  stamp = if is_stamped (number_at bytes 20 2) then number_at bytes 64 8 else 0;
+}
 
 unfoldable pub first_entry : List ℕ → EntryValue
 first_entry bytes = record { head = entry_head_at bytes; body = part bytes (head_size bytes) (number_at bytes 24 4) }
@@ -71,27 +77,19 @@ block_of bytes = record {
   size = length bytes;
 }
 
--- the length where the entries have no fault
-abbrev pub length_if_counted : ℕ → Result ℕ BlockError → Result ℕ BlockError
-length_if_counted len (Ok count) = Ok len
-length_if_counted len (Err error) = Err error
-
+-- the length where so many bytes are there, and the entries have no fault
 abbrev pub length_if_there : ℕ → ℕ → Result ℕ BlockError → Result ℕ BlockError
-length_if_there have len count = if nat_lt have len then Err (Need (len - have)) else length_if_counted len count
-
--- the checks of a head, in their order
-unfoldable pub head_verdict : ℕ → ℕ → ℕ → ℕ → ℕ → Result ℕ BlockError → Result ℕ BlockError
-head_verdict have status offset raw data_len count =
-    if status == 0 then Err NotPublished
-    else if raw == 0 then length_if_there have (20 + data_len) count
-    else if nat_lt offset (20 + data_len) then Err (RawOffset offset)
-    else length_if_there have (offset + raw) count
+length_if_there have len counted =
+    if nat_lt have len then Err (Need (len - have)) else elim counted [ Ok count ↦ Ok len | Err error ↦ Err error ]
 
 -- the length of the block that the bytes begin with, or the first check that fails
 unfoldable pub checked : List ℕ → Result ℕ BlockError
 checked bytes =
     if nat_lt (length bytes) 20 then Err (Need (20 - length bytes))
-    else head_verdict (length bytes) (status_at bytes) (raw_offset bytes) (raw_length bytes) (data_length bytes) (entry_count bytes)
+    else if status_at bytes == 0 then Err NotPublished
+    else if raw_length bytes == 0 then length_if_there (length bytes) (20 + data_length bytes) (entry_count bytes)
+    else if nat_lt (raw_offset bytes) (20 + data_length bytes) then Err (RawOffset (raw_offset bytes))
+    else length_if_there (length bytes) (raw_offset bytes + raw_length bytes) (entry_count bytes)
 
 -- the bytes are one block, all of them
 abbrev pub IsWhole : List ℕ → Type 0

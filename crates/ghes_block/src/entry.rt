@@ -1,7 +1,7 @@
 // One error data entry (ACPI 6.4, table 18.13).
-ghost use Rattle.std.specs.Prelude.{◌≡◌, ◌+◌, ◌≤◌, ◌<◌, ◌^◌, length};
+ghost use Rattle.std.specs.Prelude.{◌≡◌, ◌+◌, ◌≤◌, ◌<◌, ◌^◌, if◌then◌else◌, length};
 ghost use Rattle.base_model.specs.Bytes.{number_at};
-ghost use Rattle.ghes_block.specs.Reading.{entry_head_at, head_size, entry_size, stamp_at, is_stamped, first_entry};
+ghost use Rattle.ghes_block.specs.Reading.{entry_head_at, head_size, entry_size, is_stamped, first_entry};
 ghost use Rattle.ghes_block.specs.Entries.{value_of};
 
 use apei_bytes::{Guid, array_at, byte_at, bytes_at, get_u16, get_u32, get_u64, guid_at};
@@ -62,7 +62,7 @@ pub(crate) fn size_of_entry(bytes: &[u8]) -> usize
 fn stamp_of(bytes: &[u8]) -> u64
     requires head { 64 ≤ length bytes.now }
     requires stamp { head_size bytes.now ≤ length bytes.now }
-    ensures { result ≡ stamp_at (is_stamped (number_at bytes.now 20 2)) bytes.now }
+    ensures { result ≡ (if is_stamped (number_at bytes.now 20 2) then number_at bytes.now 64 8 else 0) }
 {
     if has_stamp(get_u16(bytes, 20)) {
         get_u64(bytes, 64)

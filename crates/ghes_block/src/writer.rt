@@ -1,9 +1,9 @@
 // A block written entry by entry.
-ghost use Rattle.std.specs.Prelude.{◌≡◌, ℕ, ◌+◌, ◌^◌, ◌<◌, ◌≤◌, ◌++◌, List, [], ◌∷◌, false, length, IfOk, OnOk, OnErr};
-ghost use Rattle.base_model.specs.Bytes.{joined};
+ghost use Rattle.std.specs.Prelude.{◌≡◌, ℕ, ◌+◌, ◌^◌, ◌<◌, ◌≤◌, ◌++◌, List, [], ◌∷◌, false, if◌then◌else◌, length, IfOk, OnOk, OnErr};
+ghost use Rattle.base_model.specs.Bytes.{spelled, joined};
 ghost use Rattle.apei_bytes.specs.Room.{NeedsRoom};
 ghost use Rattle.apei_bytes.specs.Writing.{Wrote};
-ghost use Rattle.ghes_block.specs.Grammar.{EntryValue, is_stamped, entry_front, stamp_bytes, entry_bytes, block_head, FrontFits, IsEntryHead};
+ghost use Rattle.ghes_block.specs.Grammar.{EntryValue, is_stamped, entry_front, entry_bytes, block_head, IsEntryHead};
 ghost use Rattle.ghes_block.specs.Writer.{room_of, used_by, status_of, severity_of, name_of, entry_length, stamp_size, IsBlockWriter, IsUnchanged, IsWriting, IsWritten, written_block, offset_for};
 
 use crate::block::HEADER;
@@ -17,7 +17,9 @@ use apei_bytes::{
 fn put_front(out: &mut [u8], at: usize, head: &EntryHead, count: u32)
     requires { at + 64 ≤ length out.old }
     ensures wrote { Wrote out.old out.new at (at + 64) (joined (entry_front head.now count)) }
-    ensures fits { FrontFits head.now }
+    ensures numbers { (head.now.severity < 2 ^ 32) × (head.now.revision < 2 ^ 16) × (head.now.validation < 2 ^ 8)
+        × (head.now.flags < 2 ^ 8) }
+    ensures arrays { (length head.now.kind ≡ 16) × (length head.now.fru ≡ 16) × (length head.now.fru_text ≡ 20) }
 {
     let severity = write_guid(out, at, &head.kind);
     let revision = write_u32(out, severity, head.severity);
@@ -33,7 +35,7 @@ fn put_front(out: &mut [u8], at: usize, head: &EntryHead, count: u32)
 fn put_stamp(out: &mut [u8], at: usize, revision: u16, stamp: u64) -> usize
     requires { at + stamp_size revision ≤ length out.old }
     ensures end { result ≡ at + stamp_size revision }
-    ensures wrote { Wrote out.old out.new at result (stamp_bytes (is_stamped revision) stamp) }
+    ensures wrote { Wrote out.old out.new at result (if is_stamped revision then spelled 8 stamp else []) }
     ensures range { stamp < 2 ^ 64 }
 {
     if has_stamp(revision) {

@@ -17,7 +17,7 @@ use Rattle.ghes_hub.specs.Kinds.{Kind, turned_by}
 use Rattle.ghes_hub.specs.Runs.{after_by, run_by, events_by, takes, told_at, told_by}
 use Rattle.ghes_hub.specs.OneSource.{SourceStands, last_of}
 use Rattle.ghes_hub.specs.SourcesState.{SourcesState, layouts_in, StandsAt, TurnsAt}
-use Rattle.ghes_hub.specs.Hubs.{HubState, last_if, last_in, Call, Submits, Turns, Removes, DoAll, steps_at, events_at, removals_at, left_of, Serves}
+use Rattle.ghes_hub.specs.Hubs.{HubState, last_if, last_in, Call, Submits, Turns, Removes, DoAll, steps_at, events_at, removals_at, left_of, OpenedSource, Serves}
 use Rattle.ghes_hub.proofs.KindLemmas.{turned_keeps}
 use Rattle.ghes_hub.proofs.RunLemmas.{blocks_by, taken_by, order_by, told_is, took_fits}
 use Rattle.apei_notify.proofs.ToldLemmas.{told_then, told_none}
@@ -126,9 +126,13 @@ goes {L} hearing kind j len (Removes i at ∷ calls) first last members w n st i
     record { stands = rest.stands; events_are = rest.events_are; fitting = rest.fitting; now = rest.now; members_are = rest.members_are; told = rest.told })
     (λ apart. goes hearing kind j len calls between last members w n here (does.removed.others j (λ e. apart (sym e)) ∙ is) later)
 
-pub serves : {L : Type 0} (hearing : L → Hearing) (kind : Kind) (j : ℕ) (window : List ℕ) (members : List L) (calls : List Call) (first last : HubState L) →
-    StandsAt kind first.sources j (started window) → slice_get first.chains j ≡ Some members → DoAll hearing calls first last → Serves hearing kind j window members calls last
-serves hearing kind j window members calls first last st is all =
+pub serves : {L : Type 0} (hearing : L → Hearing) (source : OpenedSource L) (calls : List Call) (first last : HubState L) →
+    StandsAt source.kind first.sources source.number (started source.window) → slice_get first.chains source.number ≡ Some source.listeners → DoAll hearing calls first last → Serves hearing source calls last
+serves hearing source calls first last st is all =
+    let kind = source.kind in
+    let j = source.number in
+    let window = source.window in
+    let members = source.listeners in
     let room = (state_at kind first.sources j (started window) st).room in
     let long = started_long window (length (with_status window (spelled 4 0))) refl room in
     let g = goes hearing kind j (length (with_status window (spelled 4 0))) calls first last members (from_start window) refl st is all in

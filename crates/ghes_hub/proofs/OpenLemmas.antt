@@ -14,15 +14,13 @@ use Rattle.apei_space.specs.Mapped.{AreDisjoint}
 use Rattle.hest_sources.specs.declared.sources.HestSource.{HestSource}
 use Rattle.ghes_hub.specs.Deals.{dealt_to, item_lists, AreDealt}
 use Rattle.ghes_hub.specs.Joins.{AreFree}
-use Rattle.ghes_hub.specs.Opens.{IsReady, IsOpened}
+use Rattle.ghes_hub.specs.Opens.{IsReady, IsOpened, opened_source}
 use Rattle.ghes_hub.specs.Places.{IsOff}
-use Rattle.ghes_hub.specs.Layouts.{layout_kind}
 use Rattle.apei_notify.specs.Telling.{Hearing}
 use Rattle.hest_sources.specs.declared.sources.Ghes.{Ghes}
-use Rattle.ghes_ack.specs.Machine.{zeros}
-use Rattle.ghes_hub.specs.Hubs.{HubState, Call, DoAll, Serves, sources_in}
+use Rattle.ghes_hub.specs.Hubs.{HubState, Call, DoAll, Serves}
 use Rattle.ghes_hub.proofs.HubLemmas.{serves}
-use Rattle.ghes_hub.specs.Refusals.{generics, layout_of, overlap_at, overlaps, is_late, clashes}
+use Rattle.ghes_hub.specs.Refusals.{generics, overlap_at, overlaps, is_late, clashes}
 use Rattle.ghes_hub.specs.SourcesState.{SourcesState}
 
 some_at : {X : Type 0} (xs : List X) (i : ℕ) → i < length xs → (x : X) × (slice_get xs i ≡ Some x)
@@ -44,11 +42,11 @@ opened {L} sources s new all n k lists chains ready same count dealt chains_are 
 
 -- each source is served from the opening on
 pub from_opening : {L : Type 0} (hearing : L → Hearing) (table : List HestSource) (listeners : List L) (i : ℕ) (source : Ghes) (calls : List Call) (first last : HubState L) → IsOpened table listeners first → slice_get (generics table) i ≡ Some source → DoAll hearing calls first last →
-    Serves hearing (layout_kind (layout_of i source)) i (zeros source.block_len) (dealt_to (sources_in first) i 0 listeners) calls last
+    Serves hearing (opened_source listeners first i source) calls last
 from_opening hearing table listeners i source calls first last opened is all =
     let w = slice_get_within (generics table) i source is in
     let n = opened.ready.count in
-    serves hearing (layout_kind (layout_of i source)) i (zeros source.block_len) (dealt_to (sources_in first) i 0 listeners) calls first last (opened.ready.stands i source is) (opened.dealt i (omega (arith, w, n))) all
+    serves hearing (opened_source listeners first i source) calls first last (opened.ready.stands i source is) (opened.dealt i (omega (arith, w, n))) all
 
 -- what it says that nothing clashes
 neither : (a b : Bool) → (a || b) ≡ false → (a ≡ false) × (b ≡ false)

@@ -12,6 +12,7 @@ use Rattle.ghes_hub.specs.declared.plain.map.PlainMap.{PlainMap}
 use Rattle.ghes_ack.specs.declared.window_blocks.Blocks.{Blocks}
 use Rattle.ghes_ack.specs.WindowQueues.{TakesOut, HoldsNone, count_of}
 use Rattle.ghes_hub.specs.Plain.{HasPlainWindows, plain_window, plain_window_of, with_plain_window, PlainState, PlainStands}
+use Rattle.ghes_ack.specs.Handovers.{over}
 use Rattle.ghes_hub.specs.PlainSides.{Turns, Stands, with_next_piece, ReaderMakes, Copies, Takes, Clears}
 use Rattle.ghes_ack.specs.Sides.{state_of, in_work, IsCopiedSoFar}
 use Rattle.ghes_ack.proofs.SideLemmas.{in_hand, none_in_hand}
@@ -24,7 +25,7 @@ fits_in_hand b t block ram out (m, st) =
 
 pub fills_hand : (b t : Blocks PlainMap) (block : Vec ℕ Global) (bytes : List ℕ) (ram new : RamState) → TakesOut plain_window_of b t block → bytes ≡ block.items → 64 * t.filled < length block.items →
     new ≡ with_plain_window t.map ram (with_piece (plain_window t.map ram) bytes t.filled) → (m : Machine) → PlainStands (state_of Filling b) ram m →
-    Turns Firmware Fill (state_of Filling b) ram (state_of Filling (record t { at_work = Some block; filled = t.filled + 1 })) new m
+    Turns Firmware Fill (over (state_of Filling b) ram) (over (state_of Filling (record t { at_work = Some block; filled = t.filled + 1 })) new) m
 fills_hand b t block bytes ram new out is more memory m st =
     let h = state_of Filling b in
     let f = out.same.filled in
@@ -32,28 +33,28 @@ fills_hand b t block bytes ram new out is more memory m st =
     memory ∙ ap (λ (x : List ℕ). with_plain_window t.map ram (with_piece (plain_window t.map ram) x t.filled)) is
     ∙ ap (λ (k : ℕ). with_plain_window t.map ram (with_piece (plain_window t.map ram) block.items k)) f
     ∙ ap (λ (at : PlainMap). with_plain_window at ram (with_piece (plain_window at ram) block.items b.filled)) out.same.map in
-    subst (λ (after : PlainState). Turns Firmware Fill h ram after new m) (in_hand b t block Filling (b.filled + 1) (t.filled + 1) out (ap (λ (k : ℕ). k + 1) (sym f)))
+    subst (λ (after : PlainState). Turns Firmware Fill (over h ram) (over after new) m) (in_hand b t block Filling (b.filled + 1) (t.filled + 1) out (ap (λ (k : ℕ). k + 1) (sym f)))
     (fills h ram new m block.items (map (λ v. v.items) t.waiting.items) refl out.held (omega (arith, more, f)) memory_b st)
 
 pub publishes_hand : (b t : Blocks PlainMap) (block : Vec ℕ Global) (bytes : List ℕ) (ram new : RamState) → TakesOut plain_window_of b t block → bytes ≡ block.items → length block.items ≤ 64 * t.filled →
     new ≡ with_plain_window t.map ram (with_status (plain_window t.map ram) (take 4 bytes)) → (m : Machine) → PlainStands (state_of Filling b) ram m →
-    Turns Firmware Publish (state_of Filling b) ram (state_of Published (record t { at_work = Some block; filled = 0 })) new m
+    Turns Firmware Publish (over (state_of Filling b) ram) (over (state_of Published (record t { at_work = Some block; filled = 0 })) new) m
 publishes_hand b t block bytes ram new out is none memory m st =
     let h = state_of Filling b in
     let f = out.same.filled in
     let memory_b : new ≡ with_plain_window b.map ram (with_status (plain_window b.map ram) (take 4 block.items)) =
     memory ∙ ap (λ (x : List ℕ). with_plain_window t.map ram (with_status (plain_window t.map ram) (take 4 x))) is
     ∙ ap (λ (at : PlainMap). with_plain_window at ram (with_status (plain_window at ram) (take 4 block.items))) out.same.map in
-    subst (λ (after : PlainState). Turns Firmware Publish h ram after new m) (in_hand b t block Published 0 0 out refl)
+    subst (λ (after : PlainState). Turns Firmware Publish (over h ram) (over after new) m) (in_hand b t block Published 0 0 out refl)
     (publishes h ram new m block.items (map (λ v. v.items) t.waiting.items) refl out.held (omega (arith, none, f)) memory_b st)
 
 -- the block at work is free
-pub frees_at : (b : Blocks PlainMap) (ram : RamState) → b.at_work ≡ None → (m : Machine) → PlainStands (state_of Acknowledged b) ram m → Turns Firmware Free (state_of Acknowledged b) ram (state_of Filling b) ram m
+pub frees_at : (b : Blocks PlainMap) (ram : RamState) → b.at_work ≡ None → (m : Machine) → PlainStands (state_of Acknowledged b) ram m → Turns Firmware Free (over (state_of Acknowledged b) ram) (over (state_of Filling b) ram) m
 frees_at b ram none m st =
     let h = state_of Acknowledged b in
     let same : in_work Acknowledged b.at_work b.last ≡ in_work Filling b.at_work b.last =
     ap (λ (o : Option (Vec ℕ Global)). in_work Acknowledged o b.last) none ∙ sym (ap (λ (o : Option (Vec ℕ Global)). in_work Filling o b.last) none) in
-    subst (λ (o : Option (List ℕ)). Turns Firmware Free h ram (record h { situation = Filling; at_work = o }) ram m) same (frees h ram m refl st)
+    subst (λ (o : Option (List ℕ)). Turns Firmware Free (over h ram) (over (record h { situation = Filling; at_work = o }) ram) m) same (frees h ram m refl st)
 
 -- the reader copies
 copied_items : (b : Blocks PlainMap) (block : Vec ℕ Global) (bytes copied : List ℕ) (ram : RamState) → bytes ≡ block.items →
@@ -85,11 +86,11 @@ clears_at b rest ram new none gone far memory =
     let all : length b.last.items ≤ 64 * b.copied = subst (λ (o : Option (Vec ℕ Global)). IsCopiedSoFar b.copied o b.last) none far in
     Clears b.last.items work all refl (ap (λ (o : Option (Vec ℕ Global)). state_of Acknowledged (record b { at_work = o })) gone) memory
 
-pub idles_at : (b new : Blocks PlainMap) (ram : RamState) → HoldsNone plain_window_of b new → (m : Machine) → PlainStands (state_of Filling b) ram m → Turns Firmware Idle (state_of Filling b) ram (state_of Filling new) ram m
-idles_at b new ram none m st = subst (λ (after : PlainState). Turns Firmware Idle (state_of Filling b) ram after ram m) (sym (none_in_hand b new none)) (idles (state_of Filling b) ram m refl none.held st)
+pub idles_at : (b new : Blocks PlainMap) (ram : RamState) → HoldsNone plain_window_of b new → (m : Machine) → PlainStands (state_of Filling b) ram m → Turns Firmware Idle (over (state_of Filling b) ram) (over (state_of Filling new) ram) m
+idles_at b new ram none m st = subst (λ (after : PlainState). Turns Firmware Idle (over (state_of Filling b) ram) (over after ram) m) (sym (none_in_hand b new none)) (idles (state_of Filling b) ram m refl none.held st)
 
-pub finds_at : (b : Blocks PlainMap) (ram : RamState) → count_of b.at_work ≡ 1 → (m : Machine) → PlainStands (state_of Published b) ram m → Turns Reader Found (state_of Published b) ram (state_of Reading (record b { copied = 0 })) ram m
-finds_at b ram one m st = subst (λ (o : Option (List ℕ)). Turns Reader Found (state_of Published b) ram (record (state_of Published b) { situation = Reading; copied = 0; at_work = o }) ram m) (same b.at_work one) (finds (state_of Published b) ram m refl st) where
+pub finds_at : (b : Blocks PlainMap) (ram : RamState) → count_of b.at_work ≡ 1 → (m : Machine) → PlainStands (state_of Published b) ram m → Turns Reader Found (over (state_of Published b) ram) (over (state_of Reading (record b { copied = 0 })) ram) m
+finds_at b ram one m st = subst (λ (o : Option (List ℕ)). Turns Reader Found (over (state_of Published b) ram) (over (record (state_of Published b) { situation = Reading; copied = 0; at_work = o }) ram) m) (same b.at_work one) (finds (state_of Published b) ram m refl st) where
   same : (o : Option (Vec ℕ Global)) → count_of o ≡ 1 → in_work Published o b.last ≡ in_work Reading o b.last
   same (Some block) e = refl
   same None e = absurd (omega (arith, e))

@@ -18,6 +18,7 @@ use Rattle.ghes_ack.specs.WindowQueues.{count_of}
 use Rattle.ghes_ack.proofs.RoomLemmas.{room_with}
 use Rattle.ghes_hub.specs.declared.plain.map.PlainMap.{PlainMap}
 use Rattle.ghes_hub.specs.Plain.{plain_status, PlainState, PlainStands}
+use Rattle.ghes_ack.specs.Handovers.{over}
 use Rattle.ghes_hub.specs.PlainSides.{IsSound, IsConsistent, AreConsistent, Stands, Turns, SideDone, FirmwareIsAble, FirmwareTurns, ReaderIsAble, ReaderTurns, SideIsAble, SideTurns}
 use Rattle.ghes_ack.proofs.SideLemmas.{none_copied}
 use Rattle.ghes_ack.proofs.JoinLemmas.{situation_at}
@@ -55,7 +56,7 @@ same_done side event other ends next old new after ram memory left is_event is_n
     (subst (λ (r : RamState). SideDone side other ends next old after ram r) (sym is_memory) done))
 
 -- the firmware waits while the block status is not 0
-waits_by : (h : PlainState) (ram : RamState) (m : Machine) (s : Situation) → h.situation ≡ s → 0 < plain_status h.map ram → PlainStands h ram m → Turns Firmware Wait h ram h ram m
+waits_by : (h : PlainState) (ram : RamState) (m : Machine) (s : Situation) → h.situation ≡ s → 0 < plain_status h.map ram → PlainStands h ram m → Turns Firmware Wait (over h ram) (over h ram) m
 waits_by h ram m Filling is some st = absurd (let none = no_status h ram m (inl is) st in omega (arith, some, none))
 waits_by h ram m Published is some st = waits h ram m (inl is) st
 waits_by h ram m Reading is some st = waits h ram m (inr (inl is)) st
@@ -65,7 +66,7 @@ waits_by h ram m Acknowledged is some st = absurd (let none = no_status h ram m 
 -- where the block status is 0 while the firmware waits, the reader looks, and no block is at work
 record IsReturned (write : FirmwareEnd) (reader : ReaderEnd) (b : Blocks PlainMap) (ram : RamState) (m : Machine) (s : Situation) : Type 0 where
   apart : AreApart write reader
-  turns : Turns Firmware Free (state_of s b) ram (state_of Filling b) ram m
+  turns : Turns Firmware Free (over (state_of s b) ram) (over (state_of Filling b) ram) m
 
 returned : (write : FirmwareEnd) (reader : ReaderEnd) (b : Blocks PlainMap) (ram : RamState) (work : Option (Vec ℕ Global)) → b.at_work ≡ work → plain_status b.map ram ≡ 0 → (m : Machine) → PlainStands (state_of (waiting_at reader work) b) ram m →
     IsReturned write reader b ram m (waiting_at reader work)
@@ -81,7 +82,7 @@ shown None is = absurd (omega (arith, is))
 shown (Some block) is = refl
 
 firmware_done : (firmware end : FirmwareEnd) (reader : ReaderEnd) (b new : Blocks PlainMap) (ram memory : RamState) (event : Event) → IsConsistent (record { firmware = firmware; reader = reader }) b →
-    Stands (handover_of (record { firmware = firmware; reader = reader }) b) ram → FirmwareTurns firmware b ram event end new memory →
+    Stands (handover_of (record { firmware = firmware; reader = reader }) b) ram → FirmwareTurns firmware (over b ram) event end (over new memory) →
     SideDone Firmware event (record { firmware = firmware; reader = reader }) (record { firmware = end; reader = reader }) b new ram memory
 firmware_done (Writes write) (Writes later) (Looks look) b new ram memory event all stands makes = record {
   consistent = record { apart = tt; sound = makes.0 };
@@ -91,7 +92,7 @@ firmware_done (Writes write) (Waits wait) (Looks look) b new ram memory event al
     let is : Published ≡ looking_at new.at_work = shown new.at_work makes.0.under_way in
     record {
       consistent = record { apart = tt; sound = subst (λ (s : Situation). IsSound s new) is makes.0 };
-      turns = λ m st. subst (λ (s : Situation). Turns Firmware event (state_of Filling b) ram (state_of s new) memory m) is (makes.1 m st);
+      turns = λ m st. subst (λ (s : Situation). Turns Firmware event (over (state_of Filling b) ram) (over (state_of s new) memory) m) is (makes.1 m st);
     }
 firmware_done (Writes write) end (Reads read) b new ram memory event all stands makes = absurd all.apart
 firmware_done (Writes write) end (Acknowledges acknowledge) b new ram memory event all stands makes = absurd all.apart
@@ -112,7 +113,7 @@ firmware_done (Waits wait) (Waits later) reader b new ram memory event all stand
     })
 
 nothing_by : (firmware : FirmwareEnd) (b : Blocks PlainMap) (ram : RamState) (work : Option (Vec ℕ Global)) → plain_status b.map ram ≡ 0 → (m : Machine) → PlainStands (state_of (situation_at firmware work) b) ram m →
-    Turns Reader Nothing (state_of (situation_at firmware work) b) ram (state_of (situation_at firmware work) b) ram m
+    Turns Reader Nothing (over (state_of (situation_at firmware work) b) ram) (over (state_of (situation_at firmware work) b) ram) m
 nothing_by (Writes write) b ram work none m st = finds_nothing (state_of Filling b) ram m (inl refl) st
 nothing_by (Waits wait) b ram None none m st = finds_nothing (state_of Acknowledged b) ram m (inr refl) st
 nothing_by (Waits wait) b ram (Some block) none m st = absurd (let some = held_status (state_of Published b) ram m (inl refl) st in omega (arith, some, none))
@@ -121,7 +122,7 @@ nothing_by (Waits wait) b ram (Some block) none m st = absurd (let some = held_s
 record IsFound (firmware : FirmwareEnd) (read : ReaderEnd) (b : Blocks PlainMap) (ram : RamState) (m : Machine) (s : Situation) : Type 0 where
   apart : AreApart firmware read
   far : IsCopiedSoFar 0 b.at_work b.last
-  turns : Turns Reader Found (state_of s b) ram (state_of Reading (record b { copied = 0 })) ram m
+  turns : Turns Reader Found (over (state_of s b) ram) (over (state_of Reading (record b { copied = 0 })) ram) m
 
 found_by : (firmware : FirmwareEnd) (read : ReaderEnd) (b : Blocks PlainMap) (ram : RamState) (work : Option (Vec ℕ Global)) → b.at_work ≡ work → 0 < plain_status b.map ram → (m : Machine) → PlainStands (state_of (situation_at firmware work) b) ram m →
     IsFound firmware read b ram m (situation_at firmware work)
@@ -145,7 +146,7 @@ returned_at None is = refl
 returned_at (Some block) is = absurd cc
 
 reader_done : (firmware : FirmwareEnd) (reader end : ReaderEnd) (b new : Blocks PlainMap) (ram memory : RamState) (event : Event) → IsConsistent (record { firmware = firmware; reader = reader }) b →
-    Stands (handover_of (record { firmware = firmware; reader = reader }) b) ram → ReaderTurns reader b ram event end new memory →
+    Stands (handover_of (record { firmware = firmware; reader = reader }) b) ram → ReaderTurns reader (over b ram) event end (over new memory) →
     SideDone Reader event (record { firmware = firmware; reader = reader }) (record { firmware = firmware; reader = end }) b new ram memory
 reader_done (Writes write) (Looks look) (Looks later) b new ram memory event all stands (found, is_memory) =
     same_done Reader event Nothing (record { firmware = Writes write; reader = Looks look }) (record { firmware = Writes write; reader = Looks later }) b new b ram memory ram found.1 found.2 is_memory
@@ -171,7 +172,7 @@ reader_done (Waits wait) (Reads read) (Looks look) b new ram memory event all st
     let is : Acknowledged ≡ looking_at new.at_work = returned_at new.at_work makes.0.under_way in
     record {
       consistent = record { apart = tt; sound = subst (λ (s : Situation). IsSound s new) is makes.0 };
-      turns = λ m st. subst (λ (s : Situation). Turns Reader event (state_of Reading b) ram (state_of s new) memory m) is (reader_made (state_of Reading b) (state_of Acknowledged new) ram memory event m refl makes.1 st);
+      turns = λ m st. subst (λ (s : Situation). Turns Reader event (over (state_of Reading b) ram) (over (state_of s new) memory) m) is (reader_made (state_of Reading b) (state_of Acknowledged new) ram memory event m refl makes.1 st);
     }
 reader_done (Waits wait) (Reads read) (Reads later) b new ram memory event all stands makes = record {
   consistent = record { apart = tt; sound = makes.0 };
@@ -182,7 +183,7 @@ reader_done (Waits wait) (Reads read) (Acknowledges end) b new ram memory event 
 reader_done firmware (Acknowledges acknowledge) end b new ram memory event all stands makes = absurd makes
 
 -- whichever side it was, the other one is where it was
-side_done : (side : Side) (ends next : Ends) (b new : Blocks PlainMap) (ram memory : RamState) (event : Event) → IsConsistent ends b → Stands (handover_of ends b) ram → SideTurns side ends b ram event next new memory →
+side_done : (side : Side) (ends next : Ends) (b new : Blocks PlainMap) (ram memory : RamState) (event : Event) → IsConsistent ends b → Stands (handover_of ends b) ram → SideTurns side ends (over b ram) event next (over new memory) →
     SideDone side event ends next b new ram memory
 side_done Firmware ends next b new ram memory event all stands (turns, same) =
     subst (λ (reader : ReaderEnd). SideDone Firmware event ends (record { firmware = next.firmware; reader = reader }) b new ram memory) (sym same)
@@ -205,12 +206,12 @@ module _ (side : Side) (place : Option Ends) (ends : Ends) (b : Blocks PlainMap)
   pub taken_able : Stands h ram → SideIsAble side ends b ram
   taken_able (m, st) = side_able side ends b ram at_hand (m, stands_so m st)
 
-  module _ (next : Ends) (new : Blocks PlainMap) (memory : RamState) (event : Event) (stands : Stands h ram) (turns : SideTurns side ends b ram event next new memory) where
+  module _ (next : Ends) (new : Blocks PlainMap) (memory : RamState) (event : Event) (stands : Stands h ram) (turns : SideTurns side ends (over b ram) event next (over new memory)) where
     done : SideDone side event ends next b new ram memory
     done = side_done side ends next b new ram memory event at_hand (stands.0, stands_so stands.0 stands.1) turns
 
     pub taken_consistent : IsConsistent next new
     taken_consistent = done.consistent
 
-    pub taken_turns : (m : Machine) → PlainStands h ram m → Turns side event h ram (handover_of next new) memory m
-    taken_turns m st = subst (λ (at : PlainState). Turns side event at ram (handover_of next new) memory m) seen_as (done.turns m (stands_so m st))
+    pub taken_turns : (m : Machine) → PlainStands h ram m → Turns side event (over h ram) (over (handover_of next new) memory) m
+    taken_turns m st = subst (λ (at : PlainState). Turns side event (over at ram) (over (handover_of next new) memory) m) seen_as (done.turns m (stands_so m st))

@@ -19,7 +19,7 @@ use Rattle.ghes_hub.specs.declared.plain.map.PlainMap.{PlainMap}
 use Rattle.ghes_ack.specs.declared.ends.Ends.{Ends}
 use Rattle.ghes_hub.specs.Places.{IsOff, plain_places_of}
 use Rattle.ghes_hub.specs.Plain.{HasPlainWindows, plain_window, plain_address, with_plain_window, with_plain_address, plain_started, PlainState, PlainStands}
-use Rattle.ghes_ack.specs.Handovers.{fresh}
+use Rattle.ghes_ack.specs.Handovers.{fresh, over}
 use Rattle.ghes_hub.specs.PlainSides.{Turns, AreConsistent}
 use Rattle.ghes_ack.proofs.AddressLemmas.{length-window, block_some, block_placed, status_placed, window-with_window, address-with_window, window-with_address, address-with_address}
 use Rattle.ghes_hub.proofs.PlainMemory.{windows_window, HasPlain-with_address, length-plain_status}
@@ -65,7 +65,7 @@ plain_elsewhere_started map ram new w is =
     subst (SameWhere (IsOff (plain_places_of map)) ram) (sym is)
     (SameWhere-then (IsOff (plain_places_of map)) ram a (plain_started map ram) one (plain_elsewhere map a (with_status (plain_window map ram) (spelled 4 0)) (HasPlain-with_address map ram w) wide))
 
-pub plain_turn_elsewhere : (side : Side) (event : Event) (h after : PlainState) (ram new : RamState) (m : Machine) → PlainStands h ram m → Turns side event h ram after new m → SameWhere (IsOff (plain_places_of h.map)) ram new
+pub plain_turn_elsewhere : (side : Side) (event : Event) (h after : PlainState) (ram new : RamState) (m : Machine) → PlainStands h ram m → Turns side event (over h ram) (over after new) m → SameWhere (IsOff (plain_places_of h.map)) ram new
 plain_turn_elsewhere side event h after ram new m st t =
     let w : HasPlainWindows h.map new = subst (λ (at : PlainMap). HasPlainWindows at new) t.map t.stands.windows in
     subst (SameWhere (IsOff (plain_places_of h.map)) ram) (sym t.memory_is) (plain_elsewhere h.map ram (plain_window h.map new) st.windows (length-window h.map.status h.map.window new w))

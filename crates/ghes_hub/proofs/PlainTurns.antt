@@ -16,7 +16,7 @@ use Rattle.ghes_ack.proofs.MachineTurns.{Next}
 use Rattle.ghes_hub.specs.declared.plain.map.PlainMap.{PlainMap}
 use Rattle.ghes_hub.specs.Kinds.{ByStatus, settled, plainly, turned_by, Occurs}
 use Rattle.ghes_hub.specs.Plain.{HasPlainWindows, plain_window, plain_status, plain_address, with_plain_window, PlainState, PlainStands}
-use Rattle.ghes_ack.specs.Handovers.{kept}
+use Rattle.ghes_ack.specs.Handovers.{kept, over}
 use Rattle.ghes_hub.specs.PlainSides.{Turns, Stands, with_next_piece, ReaderMakes, Copies, Takes, Clears}
 use Rattle.ghes_ack.proofs.AddressLemmas.{length-window, window-with_window, address-with_window}
 use Rattle.ghes_hub.proofs.PlainMemory.{windows_window, length-plain_status, unchanged}
@@ -45,7 +45,7 @@ settles n is = ap (settled n) is ∙ sym (ap (λ (s : Situation). (reader_turn n
 
 -- a turn that the machine makes so: what it keeps then, and what the memory is
 made : (side : Side) (event : Event) (h after : PlainState) (ram memory : RamState) (bytes : List ℕ) (m n : Machine) → turned_by ByStatus side m ≡ (event, n) → Agrees (kept_with after bytes) n → Occurs ByStatus after.situation → bytes ≡ plain_window after.map memory →
-    after.map ≡ h.map → memory ≡ with_plain_window h.map ram (plain_window h.map memory) → HasPlainWindows after.map memory → plain_address after.map memory ≡ after.map.window.block → Turns side event h ram after memory m
+    after.map ≡ h.map → memory ≡ with_plain_window h.map ram (plain_window h.map memory) → HasPlainWindows after.map memory → plain_address after.map memory ≡ after.map.window.block → Turns side event (over h ram) (over after memory) m
 made side event h after ram memory bytes m n is a occurs seen same memory_is windows address = record {
   event_is = sym (ap (λ (t : Turned). t.0) is);
   stands = subst (PlainStands after memory) (sym (ap (λ (t : Turned). t.1) is)) (stands_by after memory bytes n a seen windows address occurs);
@@ -59,7 +59,7 @@ settled_next side event k m next occurs =
 
 -- a turn that leaves the memory
 stays : (side : Side) (event : Event) (h after : PlainState) (ram : RamState) (m : Machine) → Next side event (kept_with after (plain_window after.map ram)) m → Occurs ByStatus after.situation → after.map ≡ h.map → PlainStands h ram m →
-    HasPlainWindows after.map ram → plain_address after.map ram ≡ after.map.window.block → Turns side event h ram after ram m
+    HasPlainWindows after.map ram → plain_address after.map ram ≡ after.map.window.block → Turns side event (over h ram) (over after ram) m
 stays side event h after ram m next occurs same st windows address =
     made side event h after ram ram (plain_window after.map ram) m next.machine (settled_next side event (kept_with after (plain_window after.map ram)) m next occurs) next.agrees occurs refl same (unchanged h.map ram st.windows) windows address
 
@@ -71,7 +71,7 @@ pub written_only : (map : PlainMap) (ram new : RamState) (bytes : List ℕ) → 
 written_only map ram new bytes w n is = is ∙ ap (with_plain_window map ram) (sym (written map ram new bytes w n is))
 
 writes : (side : Side) (event : Event) (h after : PlainState) (ram new : RamState) (bytes : List ℕ) (m n : Machine) → turned_by ByStatus side m ≡ (event, n) → Agrees (kept_with after bytes) n → Occurs ByStatus after.situation → after.map ≡ h.map →
-    length bytes ≡ h.map.window.len → new ≡ with_plain_window h.map ram bytes → PlainStands h ram m → Turns side event h ram after new m
+    length bytes ≡ h.map.window.len → new ≡ with_plain_window h.map ram bytes → PlainStands h ram m → Turns side event (over h ram) (over after new) m
 writes side event h after ram new bytes m n is a occurs same wide memory st =
     let windows = windows_window h.map ram new bytes memory wide st.windows in
     let address : plain_address h.map new ≡ h.map.window.block = ap (plain_address h.map) memory ∙ address-with_window h.map.status h.map.window ram bytes st.windows wide ∙ st.address in
@@ -83,12 +83,12 @@ writes side event h after ram new bytes m n is a occurs same wide memory st =
 pub next_fits : (h : PlainState) (ram : RamState) (m : Machine) (block : List ℕ) (rest : List (List ℕ)) → kept h ≡ block ∷ rest → PlainStands h ram m → Fits h.map.window.len block
 next_fits h ram m block rest held st = (machine.oldest (kept_now h ram) m block rest held st.agrees).fits
 
-pub idles : (h : PlainState) (ram : RamState) (m : Machine) → h.situation ≡ Filling → kept h ≡ [] → PlainStands h ram m → Turns Firmware Idle h ram h ram m
+pub idles : (h : PlainState) (ram : RamState) (m : Machine) → h.situation ≡ Filling → kept h ≡ [] → PlainStands h ram m → Turns Firmware Idle (over h ram) (over h ram) m
 idles h ram m now none st = stays Firmware Idle h h ram m (machine.idles (kept_now h ram) m now none st.agrees) st.occurs refl st st.windows st.address
 
 pub fills : (h : PlainState) (ram new : RamState) (m : Machine) (block : List ℕ) (rest : List (List ℕ)) → h.situation ≡ Filling → kept h ≡ block ∷ rest → 64 * h.filled < length block →
     new ≡ with_plain_window h.map ram (with_piece (plain_window h.map ram) block h.filled) → PlainStands h ram m →
-    Turns Firmware Fill h ram (record h { waiting = rest; at_work = Some block; filled = h.filled + 1 }) new m
+    Turns Firmware Fill (over h ram) (over (record h { waiting = rest; at_work = Some block; filled = h.filled + 1 }) new) m
 fills h ram new m block rest now held more memory st =
     let fits = (next_fits h ram m block rest held st).fits in
     let n = length-window h.map.status h.map.window ram st.windows in
@@ -100,7 +100,7 @@ fills h ram new m block rest now held more memory st =
 -- a block all of whose pieces are filled is published
 pub publishes : (h : PlainState) (ram new : RamState) (m : Machine) (block : List ℕ) (rest : List (List ℕ)) → h.situation ≡ Filling → kept h ≡ block ∷ rest → length block ≤ 64 * h.filled →
     new ≡ with_plain_window h.map ram (with_status (plain_window h.map ram) (take 4 block)) → PlainStands h ram m →
-    Turns Firmware Publish h ram (record h { waiting = rest; at_work = Some block; filled = 0; situation = Published }) new m
+    Turns Firmware Publish (over h ram) (over (record h { waiting = rest; at_work = Some block; filled = 0; situation = Published }) new) m
 publishes h ram new m block rest now held none memory st =
     let head = (next_fits h ram m block rest held st).head in
     let four : length (take 4 block) ≡ 4 = length-take 4 block ∙ omega (arith, head) in
@@ -109,10 +109,10 @@ publishes h ram new m block rest now held none memory st =
     writes Firmware Publish h (record h { waiting = rest; at_work = Some block; filled = 0; situation = Published }) ram new (with_status (plain_window h.map ram) (take 4 block)) m next.machine
     (settled_next Firmware Publish (kept_with (record h { waiting = rest; at_work = Some block; filled = 0; situation = Published }) (with_status (plain_window h.map ram) (take 4 block))) m next tt) next.agrees tt refl wide memory st
 
-pub waits : (h : PlainState) (ram : RamState) (m : Machine) → (h.situation ≡ Published) ⊎ ((h.situation ≡ Reading) ⊎ (h.situation ≡ Cleared)) → PlainStands h ram m → Turns Firmware Wait h ram h ram m
+pub waits : (h : PlainState) (ram : RamState) (m : Machine) → (h.situation ≡ Published) ⊎ ((h.situation ≡ Reading) ⊎ (h.situation ≡ Cleared)) → PlainStands h ram m → Turns Firmware Wait (over h ram) (over h ram) m
 waits h ram m held st = stays Firmware Wait h h ram m (machine.waits (kept_now h ram) m held st.agrees) st.occurs refl st st.windows st.address
 
-pub frees : (h : PlainState) (ram : RamState) (m : Machine) → h.situation ≡ Acknowledged → PlainStands h ram m → Turns Firmware Free h ram (record h { situation = Filling }) ram m
+pub frees : (h : PlainState) (ram : RamState) (m : Machine) → h.situation ≡ Acknowledged → PlainStands h ram m → Turns Firmware Free (over h ram) (over (record h { situation = Filling }) ram) m
 frees h ram m now st = stays Firmware Free h (record h { situation = Filling }) ram m (machine.frees (kept_now h ram) m now st.agrees) tt refl st st.windows st.address
 
 pub no_status : (h : PlainState) (ram : RamState) (m : Machine) → (h.situation ≡ Filling) ⊎ (h.situation ≡ Acknowledged) → PlainStands h ram m → plain_status h.map ram ≡ 0
@@ -122,10 +122,10 @@ no_status h ram m now st = machine.no_status (kept_now h ram) m now st.agrees
 pub held_status : (h : PlainState) (ram : RamState) (m : Machine) → (h.situation ≡ Published) ⊎ (h.situation ≡ Reading) → PlainStands h ram m → 0 < plain_status h.map ram
 held_status h ram m now st = machine.some_status (kept_now h ram) m now st.agrees
 
-pub finds_nothing : (h : PlainState) (ram : RamState) (m : Machine) → (h.situation ≡ Filling) ⊎ (h.situation ≡ Acknowledged) → PlainStands h ram m → Turns Reader Nothing h ram h ram m
+pub finds_nothing : (h : PlainState) (ram : RamState) (m : Machine) → (h.situation ≡ Filling) ⊎ (h.situation ≡ Acknowledged) → PlainStands h ram m → Turns Reader Nothing (over h ram) (over h ram) m
 finds_nothing h ram m now st = stays Reader Nothing h h ram m (machine.finds_nothing (kept_now h ram) m now st.agrees) st.occurs refl st st.windows st.address
 
-pub finds : (h : PlainState) (ram : RamState) (m : Machine) → h.situation ≡ Published → PlainStands h ram m → Turns Reader Found h ram (record h { situation = Reading; copied = 0 }) ram m
+pub finds : (h : PlainState) (ram : RamState) (m : Machine) → h.situation ≡ Published → PlainStands h ram m → Turns Reader Found (over h ram) (over (record h { situation = Reading; copied = 0 }) ram) m
 finds h ram m now st = stays Reader Found h (record h { situation = Reading; copied = 0 }) ram m (machine.finds (kept_now h ram) m now st.agrees) tt refl st st.windows st.address
 
 -- the block that is published and not acknowledged
@@ -141,18 +141,18 @@ pub copies_over : (h : PlainState) (ram : RamState) (block : List ℕ) (at n : �
 copies_over h ram block at n now is more inside (m, st) = machine.copies_over (kept_now h ram) m block h.waiting at n now (held_work h block is) more inside st.agrees
 
 pub copies_more : (h : PlainState) (ram : RamState) (m : Machine) (block : List ℕ) → h.situation ≡ Reading → h.at_work ≡ Some block → 64 * (h.copied + 1) < length block → PlainStands h ram m →
-    Turns Reader Copied h ram (record h { copied = h.copied + 1 }) ram m
+    Turns Reader Copied (over h ram) (over (record h { copied = h.copied + 1 }) ram) m
 copies_more h ram m block now is more st =
     stays Reader Copied h (record h { copied = h.copied + 1 }) ram m (machine.copies_more (kept_now h ram) m block h.waiting now (held_work h block is) more st.agrees) st.occurs refl st st.windows st.address
 
 pub copies_last : (h : PlainState) (ram : RamState) (m : Machine) (block : List ℕ) → h.situation ≡ Reading → h.at_work ≡ Some block → 64 * h.copied < length block → length block ≤ 64 * (h.copied + 1) → PlainStands h ram m →
-    Turns Reader Took h ram (record h { copied = h.copied + 1; last = block }) ram m
+    Turns Reader Took (over h ram) (over (record h { copied = h.copied + 1; last = block }) ram) m
 copies_last h ram m block now is more all st =
     stays Reader Took h (record h { copied = h.copied + 1; last = block }) ram m (machine.copies_last (kept_now h ram) m block h.waiting now (held_work h block is) more all st.agrees) st.occurs refl st st.windows st.address
 
 -- the clearing is the acknowledgement
 pub clears : (h : PlainState) (ram new : RamState) (m : Machine) (block : List ℕ) → h.situation ≡ Reading → h.at_work ≡ Some block → length block ≤ 64 * h.copied →
-    new ≡ with_plain_window h.map ram (with_status (plain_window h.map ram) (spelled 4 0)) → PlainStands h ram m → Turns Reader Clear h ram (record h { situation = Acknowledged; at_work = None }) new m
+    new ≡ with_plain_window h.map ram (with_status (plain_window h.map ram) (spelled 4 0)) → PlainStands h ram m → Turns Reader Clear (over h ram) (over (record h { situation = Acknowledged; at_work = None }) new) m
 clears h ram new m block now is all memory st =
     let wide = length-plain_status h.map ram (spelled 4 0) (length-spelled 4 0) st.windows in
     let held = held_work h block is in
@@ -164,16 +164,16 @@ clears h ram new m block now is all memory st =
     writes Reader Clear h (record h { situation = Acknowledged; at_work = None }) ram new (with_status (plain_window h.map ram) (spelled 4 0)) m done.machine both done.agrees tt refl wide memory st
 
 -- what a reader makes that may read is the machine's turn: the window's piece is the block's own
-made_as : (event other : Event) (h after next : PlainState) (ram memory left : RamState) (m : Machine) → event ≡ other → after ≡ next → memory ≡ left → Turns Reader other h ram next left m → Turns Reader event h ram after memory m
+made_as : (event other : Event) (h after next : PlainState) (ram memory left : RamState) (m : Machine) → event ≡ other → after ≡ next → memory ≡ left → Turns Reader other (over h ram) (over next left) m → Turns Reader event (over h ram) (over after memory) m
 made_as event other h after next ram memory left m is_event is_after is_memory done =
-    subst (λ (e : Event). Turns Reader e h ram after memory m) (sym is_event)
-    (subst (λ (s : PlainState). Turns Reader other h ram s memory m) (sym is_after)
-    (subst (λ (r : RamState). Turns Reader other h ram next r m) (sym is_memory) done))
+    subst (λ (e : Event). Turns Reader e (over h ram) (over after memory) m) (sym is_event)
+    (subst (λ (s : PlainState). Turns Reader other (over h ram) (over s memory) m) (sym is_after)
+    (subst (λ (r : RamState). Turns Reader other (over h ram) (over next r) m) (sym is_memory) done))
 
 next_is : (h : PlainState) (ram : RamState) (m : Machine) (block : List ℕ) → h.situation ≡ Reading → h.at_work ≡ Some block → 64 * h.copied < length block → PlainStands h ram m → with_next_piece h ram block ≡ block
 next_is h ram m block now is begins st = copies_over h ram block (64 * h.copied) (min 64 (length block - 64 * h.copied)) now is begins (omega (arith, begins)) (m, st)
 
-pub reader_made : (h after : PlainState) (ram memory : RamState) (event : Event) (m : Machine) → h.situation ≡ Reading → ReaderMakes h ram event after memory → PlainStands h ram m → Turns Reader event h ram after memory m
+pub reader_made : (h after : PlainState) (ram memory : RamState) (event : Event) (m : Machine) → h.situation ≡ Reading → ReaderMakes h ram event after memory → PlainStands h ram m → Turns Reader event (over h ram) (over after memory) m
 reader_made h after ram memory event m now (Copies block is more is_event is_after is_memory) st =
     let same = next_is h ram m block now is (omega (arith, more)) st in
     made_as event Copied h after (record h { copied = h.copied + 1 }) ram memory ram m is_event

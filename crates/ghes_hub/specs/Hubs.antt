@@ -4,7 +4,7 @@ use Rattle.apei_notify.specs.Telling.{Hearing, Told}
 use Rattle.ghes_ack.specs.declared.events.Side.{Side}
 use Rattle.ghes_ack.specs.declared.events.Event.{Event}
 use Rattle.ghes_ack.specs.Machine.{Machine, submitted}
-use Rattle.ghes_ack.specs.Schedules.{Step, Submit, Turn, from_start, AreInOrder, submissions}
+use Rattle.ghes_ack.specs.Schedules.{Step, Submit, Turn, Watched, from_start, AreInOrder, submissions}
 use Rattle.ghes_hub.specs.declared.source.Source.{Source}
 use Rattle.ghes_hub.specs.Kinds.{Kind}
 use Rattle.ghes_hub.specs.Runs.{run_by, events_by, told_at}
@@ -100,15 +100,26 @@ abbrev pub left_of : {L : Type 0} → List ℕ → List L → List L
 left_of [] members = members
 left_of (at ∷ rest) members = left_of rest (remove members at)
 
+-- a source as it was opened: its kind, its number among the generic ones, its window and its listeners
+pub record OpenedSource (L : Type 0) : Type 0 where
+  pub kind : Kind
+  pub number : ℕ
+  pub window : List ℕ
+  pub listeners : List L
+
+-- its machine, and what its reader has, after its own steps among some calls
+abbrev pub watched_at : {L : Type 0} → OpenedSource L → List Call → Watched
+watched_at source calls = run_by source.kind (from_start source.window) (steps_at source.number calls)
+
 -- a source of a hub after some calls from an opening: it stands for the machine of its kind that made its own steps, it answered that
 -- machine's events, what the reader copied out of the window are the first blocks of those submitted to it, as many as were taken, whole,
 -- each once, in order; and of these blocks its listeners that are left were told
-pub record Serves {L : Type 0} (hearing : L → Hearing) (kind : Kind) (j : ℕ) (window : List ℕ) (members : List L) (calls : List Call) (last : HubState L) : Type 0 where
-  pub stands : StandsAt kind last.sources j (run_by kind (from_start window) (steps_at j calls)).machine
-  pub events : events_at j calls ≡ events_by kind (from_start window) (steps_at j calls)
-  pub blocks : (run_by kind (from_start window) (steps_at j calls)).machine.blocks ≡ submissions (steps_at j calls)
-  pub taken : (run_by kind (from_start window) (steps_at j calls)).taken ≡ take (run_by kind (from_start window) (steps_at j calls)).machine.taken (submissions (steps_at j calls))
-  pub order : AreInOrder (run_by kind (from_start window) (steps_at j calls)).machine
+pub record Serves {L : Type 0} (hearing : L → Hearing) (source : OpenedSource L) (calls : List Call) (last : HubState L) : Type 0 where
+  pub stands : StandsAt source.kind last.sources source.number (watched_at source calls).machine
+  pub events : events_at source.number calls ≡ events_by source.kind (from_start source.window) (steps_at source.number calls)
+  pub blocks : (watched_at source calls).machine.blocks ≡ submissions (steps_at source.number calls)
+  pub taken : (watched_at source calls).taken ≡ take (watched_at source calls).machine.taken (submissions (steps_at source.number calls))
+  pub order : AreInOrder (watched_at source calls).machine
   pub now : List L
-  pub members_are : slice_get last.chains j ≡ Some now
-  pub told : Told hearing (run_by kind (from_start window) (steps_at j calls)).taken (left_of (removals_at j calls) members) now
+  pub members_are : slice_get last.chains source.number ≡ Some now
+  pub told : Told hearing (watched_at source calls).taken (left_of (removals_at source.number calls) source.listeners) now

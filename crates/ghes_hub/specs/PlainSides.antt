@@ -11,6 +11,7 @@ use Rattle.ghes_ack.specs.Sides.{IsCopiedSoFar, AreApart, situation_of, state_of
 use Rattle.ghes_ack.specs.declared.window_blocks.Blocks.{Blocks}
 use Rattle.ghes_ack.specs.WindowQueues.{HasRoom, count_of}
 use Rattle.ghes_ack.specs.Pieces.{read_over}
+use Rattle.ghes_ack.specs.Handovers.{WithMemory, over}
 use Rattle.ghes_hub.specs.declared.plain.map.PlainMap.{PlainMap}
 use Rattle.ghes_ack.specs.declared.ends.Ends.{Ends}
 use Rattle.ghes_ack.specs.declared.ends.FirmwareEnd.{FirmwareEnd}
@@ -50,16 +51,17 @@ Stands h ram = (m : Machine) × PlainStands h ram m
 
 -- a turn, from a state of the machine: the machine's event, and afterwards it stands for the machine's next state; of the memory
 -- the block's window alone is another
-pub record Turns (side : Side) (event : Event) (old : PlainState) (ram : RamState) (after : PlainState) (memory : RamState) (m : Machine) : Type 0 where
+pub record Turns (side : Side) (event : Event) (old new : WithMemory PlainState) (m : Machine) : Type 0 where
   pub event_is : event ≡ (turned_by ByStatus side m).0
-  pub stands : PlainStands after memory (turned_by ByStatus side m).1
-  pub map : after.map ≡ old.map
-  pub memory_is : memory ≡ with_plain_window old.map ram (plain_window old.map memory)
+  pub stands : PlainStands new.state new.memory (turned_by ByStatus side m).1
+  pub map : new.state.map ≡ old.state.map
+  pub memory_is : new.memory ≡ with_plain_window old.state.map old.memory (plain_window old.state.map new.memory)
 
 -- both sides after a turn of one of them
 pub record SideDone (side : Side) (event : Event) (ends next : Ends) (old new : Blocks PlainMap) (ram memory : RamState) : Type 0 where
   pub consistent : IsConsistent next new
-  pub turns : (m : Machine) → PlainStands (handover_of ends old) ram m → Turns side event (handover_of ends old) ram (handover_of next new) memory m
+  pub turns : (m : Machine) → PlainStands (handover_of ends old) ram m
+      → Turns side event (over (handover_of ends old) ram) (over (handover_of next new) memory) m
 
 -- the situation that the firmware's end leaves, from one in which it wrote
 abbrev pub firmware_at : FirmwareEnd → Situation
@@ -77,10 +79,12 @@ FindsClear map ram event (Writes write) = (plain_status map ram ≡ 0) × (event
 FindsClear map ram event (Waits wait) = (0 < plain_status map ram) × (event ≡ Wait)
 
 -- a turn of the firmware, whatever the reader does
-abbrev pub FirmwareTurns : FirmwareEnd → Blocks PlainMap → RamState → Event → FirmwareEnd → Blocks PlainMap → RamState → Type 0
-FirmwareTurns (Writes write) old ram event end new memory =
-    IsSound (firmware_at end) new × ((m : Machine) → PlainStands (state_of Filling old) ram m → Turns Firmware event (state_of Filling old) ram (state_of (firmware_at end) new) memory m)
-FirmwareTurns (Waits wait) old ram event end new memory = FindsClear old.map ram event end × (new ≡ old) × (memory ≡ ram)
+abbrev pub FirmwareTurns : FirmwareEnd → WithMemory (Blocks PlainMap) → Event → FirmwareEnd → WithMemory (Blocks PlainMap) → Type 0
+FirmwareTurns (Writes write) old event end new =
+    IsSound (firmware_at end) new.state × ((m : Machine) → PlainStands (state_of Filling old.state) old.memory m
+    → Turns Firmware event (over (state_of Filling old.state) old.memory) (over (state_of (firmware_at end) new.state) new.memory) m)
+FirmwareTurns (Waits wait) old event end new =
+    FindsClear old.state.map old.memory event end × (new.state ≡ old.state) × (new.memory ≡ old.memory)
 
 -- the situation that the reader's end leaves, from one in which it read
 abbrev pub reader_at : ReaderEnd → Situation
@@ -120,11 +124,13 @@ pub data ReaderMakes (old : PlainState) (ram : RamState) (event : Event) (new : 
       ReaderMakes old ram event new memory
 
 -- a turn of the reader, whatever the firmware does
-abbrev pub ReaderTurns : ReaderEnd → Blocks PlainMap → RamState → Event → ReaderEnd → Blocks PlainMap → RamState → Type 0
-ReaderTurns (Looks look) old ram event end new memory = FindsBlock old ram event end new × (memory ≡ ram)
-ReaderTurns (Reads read) old ram event end new memory =
-    IsSound (reader_at end) new × ReaderMakes (state_of Reading old) ram event (state_of (reader_at end) new) memory
-ReaderTurns (Acknowledges acknowledge) old ram event end new memory = ⊥
+abbrev pub ReaderTurns : ReaderEnd → WithMemory (Blocks PlainMap) → Event → ReaderEnd → WithMemory (Blocks PlainMap) → Type 0
+ReaderTurns (Looks look) old event end new =
+    FindsBlock old.state old.memory event end new.state × (new.memory ≡ old.memory)
+ReaderTurns (Reads read) old event end new =
+    IsSound (reader_at end) new.state
+    × ReaderMakes (state_of Reading old.state) old.memory event (state_of (reader_at end) new.state) new.memory
+ReaderTurns (Acknowledges acknowledge) old event end new = ⊥
 
 -- a side can make a turn: of the other side nothing is known
 abbrev pub SideIsAble : Side → Ends → Blocks PlainMap → RamState → Type 0
@@ -132,6 +138,6 @@ SideIsAble Firmware ends b ram = FirmwareIsAble ends.firmware b ram
 SideIsAble Reader ends b ram = ReaderIsAble ends.reader b ram
 
 -- a turn of a side by its own end, the blocks and the memory. The other side stays where it is
-abbrev pub SideTurns : Side → Ends → Blocks PlainMap → RamState → Event → Ends → Blocks PlainMap → RamState → Type 0
-SideTurns Firmware ends old ram event next new memory = FirmwareTurns ends.firmware old ram event next.firmware new memory × (next.reader ≡ ends.reader)
-SideTurns Reader ends old ram event next new memory = ReaderTurns ends.reader old ram event next.reader new memory × (next.firmware ≡ ends.firmware)
+abbrev pub SideTurns : Side → Ends → WithMemory (Blocks PlainMap) → Event → Ends → WithMemory (Blocks PlainMap) → Type 0
+SideTurns Firmware ends old event next new = FirmwareTurns ends.firmware old event next.firmware new × (next.reader ≡ ends.reader)
+SideTurns Reader ends old event next new = ReaderTurns ends.reader old event next.reader new × (next.firmware ≡ ends.firmware)

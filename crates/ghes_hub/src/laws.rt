@@ -1,14 +1,12 @@
 // Laws of a hub: the functions do nothing, and their clauses are the laws.
 ghost use Rattle.std.specs.Prelude.{◌≡◌, ◌≤◌, ◌+◌, ◌-◌, ◌^◌, min, ℕ, List, length, take, Some, slice_get};
-ghost use Rattle.ghes_ack.specs.Machine.{IsState, started, zeros};
+ghost use Rattle.ghes_ack.specs.Machine.{IsState, started};
 ghost use Rattle.ghes_ack.specs.Schedules.{Step, from_start, AreFitting, AreInOrder, submissions};
 ghost use Rattle.hest_sources.specs.declared.sources.Ghes.{Ghes as Generic};
 ghost use Rattle.hest_sources.specs.declared.sources.HestSource.{HestSource};
-ghost use Rattle.ghes_hub.specs.Deals.{dealt_to};
-ghost use Rattle.ghes_hub.specs.Layouts.{layout_kind};
-ghost use Rattle.ghes_hub.specs.Opens.{IsOpened};
-ghost use Rattle.ghes_hub.specs.Refusals.{generics, layout_of};
-ghost use Rattle.ghes_hub.specs.Hubs.{HubState, Call, DoAll, Serves, sources_in};
+ghost use Rattle.ghes_hub.specs.Opens.{IsOpened, opened_source};
+ghost use Rattle.ghes_hub.specs.Refusals.{generics};
+ghost use Rattle.ghes_hub.specs.Hubs.{HubState, Call, DoAll, OpenedSource, Serves};
 ghost use Rattle.apei_notify.specs.Telling.{Told, wanted};
 ghost use Rattle.std.specs.List.{AllZip};
 ghost use Rattle.ghes_hub.specs.Kinds.{Kind};
@@ -37,10 +35,10 @@ pub fn every_source_in_order()
 /// What the calls of a hub say, put together: for every list of calls and each source, whatever stands between, the source is served as
 /// its own submissions, turns and removals alone say.
 pub fn every_list_of_calls<L: Listener>()
-    ensures serves { (kind : Kind) (j : ℕ) (window : List ℕ) (members : List L) (calls : List Call)
-        (first last : HubState L) → StandsAt kind first.sources j (started window)
-        → slice_get first.chains j ≡ Some members → DoAll L.hearing calls first last
-        → Serves L.hearing kind j window members calls last }
+    ensures serves { (source : OpenedSource L) (calls : List Call) (first last : HubState L)
+        → StandsAt source.kind first.sources source.number (started source.window)
+        → slice_get first.chains source.number ≡ Some source.listeners → DoAll L.hearing calls first last
+        → Serves L.hearing source calls last }
     ensures layouts { (calls : List Call) (first last : HubState L) → DoAll L.hearing calls first last
         → layouts_in last.sources ≡ layouts_in first.sources }
 {}
@@ -50,8 +48,7 @@ pub fn every_list_of_calls<L: Listener>()
 pub fn a_hub_from_its_opening<L: Listener>()
     ensures { (table : List HestSource) (listeners : List L) (i : ℕ) (source : Generic) (calls : List Call)
         (first last : HubState L) → IsOpened table listeners first → slice_get (generics table) i ≡ Some source
-        → DoAll L.hearing calls first last → Serves L.hearing (layout_kind (layout_of i source)) i
-        (zeros source.block_len) (dealt_to (sources_in first) i 0 listeners) calls last }
+        → DoAll L.hearing calls first last → Serves L.hearing (opened_source listeners first i source) calls last }
 {}
 
 /// A listener that was told of some blocks has heard of exactly those that it wants, each once.

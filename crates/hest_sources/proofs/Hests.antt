@@ -1,20 +1,20 @@
 -- What is found is the table that stands first, and what is one is found.
-use Rattle.std.proofs.Common.{◌≡◌, ℕ, ◌<◌, ◌≤◌, ◌^◌, List, ◌++◌, length, take, drop, Option, Some, None, Result, Ok, Err, refl, sym, ap, subst, ◌∙◌, arith, length-append}
+use Rattle.std.proofs.Common.{◌≡◌, ℕ, ◌<◌, ◌≤◌, ◌^◌, cond, List, ◌++◌, length, take, drop, Option, Some, None, Result, Ok, Err, refl, sym, ap, subst, ◌∙◌, arith, length-append}
 use Rattle.std.specs.Prelude.{◌==◌, MatchResult, IfOk}
 use Rattle.std.proofs.lemmas.Bool.{eq-eqb, ne_eqb, cond-true, cond-false}
 use Rattle.std.proofs.lemmas.List.{take-append-drop, length-take}
 use Rattle.base_model.specs.Bytes.{number_at, AreBytes}
 use Rattle.base_model.proofs.BytesLemmas.{number_at-lt, AreBytes-take}
 use Rattle.apei_tables.specs.declared.headers.Header.{Header}
+use Rattle.apei_tables.specs.declared.headers.TableError.{TableError}
 use Rattle.apei_tables.specs.Tables.{FindsTable, refusal as table_refusal}
 use Rattle.apei_tables.proofs.Finding.{size-front, none_refused}
 use Rattle.hest_sources.specs.declared.sources.HestSource.{HestSource}
 use Rattle.hest_sources.specs.declared.tables.HestError.{HestError}
 use Rattle.hest_sources.specs.declared.tables.HestError.TheVariants.{Table, UnknownType, Cut, Count, Memory}
-use Rattle.hest_sources.specs.Layout.{AreSources}
 use Rattle.hest_sources.specs.Walk.{sources_in, source_count}
-use Rattle.hest_sources.specs.Tables.{signature, IsHest, CountsTable, IsRefusal, counted_wrong, behind_header, refusal}
-use Rattle.hest_sources.proofs.Walks.{counts, counts_again}
+use Rattle.hest_sources.specs.Tables.{signature, IsHest, CountsTable, IsRefusal, refusal}
+use Rattle.hest_sources.proofs.Walks.{AreSources, counts, counts_again}
 
 split : (bytes : List ℕ) (header : Header) (table : List ℕ) → FindsTable signature 40 bytes header table → bytes ≡ table ++ drop (length table) bytes
 split bytes header table found = sym (take-append-drop (length table) bytes) ∙ ap (λ (xs : List ℕ). xs ++ drop (length table) bytes) (sym found.prefix)
@@ -43,7 +43,15 @@ found_is bytes table count sources each t list =
     } in
     ((small_table bytes t.header table each t.finds).1, subst (IsHest sources) t.finds.prefix is)
 
--- what is refused behind a header that is right
+-- what is refused behind a header: the count against the number that the walk found
+abbrev pub counted_wrong : ℕ → Result ℕ HestError → Option HestError
+counted_wrong declared (Ok found) = cond (declared == found) None (Some (Count declared found))
+counted_wrong declared (Err error) = Some error
+
+abbrev behind_header : List ℕ → Option TableError → Option HestError
+behind_header table None = counted_wrong (number_at table 36 4) (source_count table)
+behind_header table (Some error) = Some (Table error)
+
 pub refusal_is : (bytes : List ℕ) (header : Header) (table : List ℕ) → FindsTable signature 40 bytes header table → table_refusal signature 40 bytes ≡ None → refusal bytes ≡ counted_wrong (number_at table 36 4) (source_count table)
 refusal_is bytes header table found none =
     let size : number_at bytes 4 4 ≡ length table = size-front bytes table (drop (length table) bytes) (split bytes header table found) found.is_table.sealed in

@@ -12,8 +12,8 @@ use Rattle.hest_sources.specs.declared.sources.HestSource.{HestSource}
 use Rattle.hest_sources.specs.declared.sources.HestSource.TheVariants.{Ghes as Generic, Other}
 use Rattle.hest_sources.specs.declared.tables.HestError.{HestError}
 use Rattle.hest_sources.specs.declared.tables.HestError.TheVariants.{UnknownType, Cut}
-use Rattle.hest_sources.specs.Layout.{type_of, size_of, length_with_banks, length_by_type, IsSource, ack_by_type, ack_at, front_at, source_at, length_if_there, structure_length}
-use Rattle.hest_sources.proofs.Structures.{length-ghes, ghes_reads, ghes_nine, ghes_ten}
+use Rattle.hest_sources.specs.Layout.{type_of, size_of, length_with_banks, length_by_type, IsSource, ack_at, front_at, source_at, structure_length}
+use Rattle.hest_sources.proofs.Structures.{ack_by_type, length-ghes, ghes_reads, ghes_nine, ghes_ten}
 
 -- a length is 20 at least
 abbrev Low : Result ℕ HestError → Type 0
@@ -101,6 +101,11 @@ pub record Measured (at n : ℕ) (rest : List ℕ) : Type 0 where
   pub by_kind : length_by_type (number_at rest 0 2) at rest ≡ Ok n
   pub fits : n ≤ length rest
 
+-- the length of a type, where so many bytes are there
+abbrev length_if_there : ℕ → List ℕ → Result ℕ HestError → Result ℕ HestError
+length_if_there at bytes (Ok len) = cond (nat_lt (length bytes) len) (Err (Cut at)) (Ok len)
+length_if_there at bytes (Err error) = Err error
+
 is_there : (at : ℕ) (rest : List ℕ) (r : Result ℕ HestError) (n : ℕ) → length_if_there at rest r ≡ Ok n → (r ≡ Ok n) × (n ≤ length rest)
 is_there at rest (Ok m) n e =
     let a = ok_unless _ _ _ _ e in
@@ -159,15 +164,14 @@ source_is at n rest h e =
           let size : length (take n rest) ≡ n = length-take n rest ∙ omega arith in
           let split : take n rest ++ drop n rest ≡ rest = take-append-drop n rest in
           let kind_is : number_at (take n rest) 0 2 ≡ kind = sym (number_at-front (take n rest) (drop n rest) 0 2 (omega arith)) ∙ ap (λ (xs : List ℕ). number_at xs 0 2) split in
-          subst (λ (s : HestSource). IsSource at s (take n rest)) (sym (cond-false ((kind == 9) || (kind == 10)) _ (Other kind at n) other))
-          (record {
-            place_is = refl;
-            len_is = sym size;
-            head = omega arith;
-            kind_is = kind_is;
-            not_generic = other;
-            length_is = length_front kind at (take n rest) (drop n rest) (ap (length_by_type kind at) split ∙ m.by_kind ∙ ap (λ (k : ℕ). Ok k) (sym size));
-          })
+          subst (λ (s : HestSource). IsSource at s (take n rest)) (sym (cond-false ((kind == 9) || (kind == 10)) _ (Other kind at n) other)) (
+            refl,
+            sym size,
+            omega arith,
+            kind_is,
+            other,
+            length_front kind at (take n rest) (drop n rest) (ap (length_by_type kind at) split ∙ m.by_kind ∙ ap (λ (k : ℕ). Ok k) (sym size)),
+          )
     ]
 
 -- a source that stands first is measured and read again
@@ -201,17 +205,17 @@ source_again at (Generic source) front more rest is e =
     }
 source_again at (Other kind place len) front more rest is e =
     let all : length rest ≡ length front + length more = ap length e ∙ length-append front more in
-    let head = is.head in
-    let kind_is : number_at rest 0 2 ≡ kind = ap (λ (xs : List ℕ). number_at xs 0 2) e ∙ number_at-front front more 0 2 is.head ∙ is.kind_is in
+    let head = is.2 in
+    let kind_is : number_at rest 0 2 ≡ kind = ap (λ (xs : List ℕ). number_at xs 0 2) e ∙ number_at-front front more 0 2 is.2 ∙ is.3 in
     let by_kind : length_by_type (number_at rest 0 2) at rest ≡ Ok (length front) =
-    ap (λ (k : ℕ). length_by_type k at rest) kind_is ∙ ap (length_by_type kind at) e ∙ length_more kind at (length front) front more is.length_is in
+    ap (λ (k : ℕ). length_by_type k at rest) kind_is ∙ ap (length_by_type kind at) e ∙ length_more kind at (length front) front more is.5 in
     record {
       length_is = measures at (length front) rest (record { head = omega arith; by_kind = by_kind; fits = omega arith });
       source_is =
-          cond-false ((number_at rest 0 2 == 9) || (number_at rest 0 2 == 10)) _ (Other (number_at rest 0 2) at (length front)) (ap (λ (k : ℕ). (k == 9) || (k == 10)) kind_is ∙ is.not_generic)
+          cond-false ((number_at rest 0 2 == 9) || (number_at rest 0 2 == 10)) _ (Other (number_at rest 0 2) at (length front)) (ap (λ (k : ℕ). (k == 9) || (k == 10)) kind_is ∙ is.4)
           ∙ ap (λ (k : ℕ). Other k at (length front)) kind_is
-          ∙ ap (λ (k : ℕ). Other kind k (length front)) (sym is.place_is)
-          ∙ ap (λ (k : ℕ). Other kind place k) (sym is.len_is);
+          ∙ ap (λ (k : ℕ). Other kind k (length front)) (sym is.0)
+          ∙ ap (λ (k : ℕ). Other kind place k) (sym is.1);
       low = length_low (number_at rest 0 2) at (length front) rest by_kind;
     }
 

@@ -1,5 +1,5 @@
 -- One structure: what is read of it is spelled so, and what is spelled so is read again.
-use Rattle.std.proofs.Common.{◌≡◌, ℕ, ◌+◌, ◌<◌, ◌≤◌, ◌^◌, List, [], ◌∷◌, ◌++◌, length, map, get_or, Option, Some, None, refl, sym, ap, subst, ◌∙◌, arith, length-append, append_assoc}
+use Rattle.std.proofs.Common.{◌≡◌, ℕ, ◌+◌, ◌<◌, ◌≤◌, ◌^◌, if◌then◌else◌, ◌==◌, List, [], ◌∷◌, ◌++◌, length, map, get_or, Option, Some, None, IfSome, refl, sym, ap, subst, ◌∙◌, arith, length-append, append_assoc}
 use Rattle.std.proofs.lemmas.List.{append-nil}
 use Rattle.base_model.specs.Bytes.{part, number_at, spelled, joined, total, AreBytes}
 use Rattle.base_model.proofs.BytesLemmas.{spelled-number_at, number_at-lt, length-part, part-part, part-append, part-append_right, part-whole, length-joined, AreBytes-part}
@@ -10,7 +10,7 @@ use Rattle.apei_tables.specs.declared.structure.Gas.{Gas}
 use Rattle.apei_tables.specs.GasLayout.{spelling, IsGas}
 use Rattle.hest_sources.specs.declared.sources.Ghes.{Ghes}
 use Rattle.hest_sources.specs.declared.sources.Ack.{Ack}
-use Rattle.hest_sources.specs.Layout.{type_of, size_of, ghes_fields, ack_fields, ack_bytes, ghes_bytes, IsAck, AckFits, IsGhes, gas_at, ack_at, ack_by_type, front_at}
+use Rattle.hest_sources.specs.Layout.{type_of, size_of, ghes_fields, ack_bytes, ghes_bytes, IsAck, IsGhes, gas_at, ack_at, front_at}
 
 -- registers
 gas_fields : Gas → List (List ℕ)
@@ -65,6 +65,12 @@ gas_reads gas is =
     rw (space, width, offset, access, address) refl
 
 -- generic sources
+abbrev pub ack_fields : Ack → List (List ℕ)
+ack_fields ack = spelling ack.register ∷ spelled 8 ack.preserve ∷ spelled 8 ack.write ∷ []
+
+abbrev pub ack_by_type : ℕ → List ℕ → Option Ack
+ack_by_type kind bytes = if kind == 10 then Some (ack_at bytes) else None
+
 abbrev pub ghes_sizes : List ℕ
 ghes_sizes = 2 ∷ 2 ∷ 2 ∷ 1 ∷ 1 ∷ 4 ∷ 4 ∷ 4 ∷ 12 ∷ 28 ∷ 4 ∷ []
 
@@ -82,7 +88,7 @@ ack_sized ack is = let register = length-gas ack.register is.register in rw regi
 length-fields : (source : Ghes) → IsGhes source → length (joined (ghes_fields source)) ≡ 64
 length-fields source is = length-joined (ghes_fields source) ∙ ap total (ghes_sized source is)
 
-length-ack_bytes : (ack : Option Ack) → AckFits ack → 64 + length (ack_bytes ack) ≡ size_of ack
+length-ack_bytes : (ack : Option Ack) → IfSome ack IsAck → 64 + length (ack_bytes ack) ≡ size_of ack
 length-ack_bytes None is = refl
 length-ack_bytes (Some ack) is = ap (λ (n : ℕ). 64 + n) (length-joined (ack_fields ack) ∙ ap total (ack_sized ack is))
 
@@ -92,7 +98,7 @@ length-ghes source is =
     length-append (joined (ghes_fields source)) (ack_bytes source.ack) ∙ ap (λ (n : ℕ). n + length (ack_bytes source.ack)) (length-fields source is) ∙ length-ack_bytes source.ack is.ack
 
 -- the acknowledgement behind 64 bytes
-ack_reads : (ack : Option Ack) (front more bytes : List ℕ) → AckFits ack → length front ≡ 64 → bytes ≡ (front ++ ack_bytes ack) ++ more → ack_by_type (type_of ack) bytes ≡ ack
+ack_reads : (ack : Option Ack) (front more bytes : List ℕ) → IfSome ack IsAck → length front ≡ 64 → bytes ≡ (front ++ ack_bytes ack) ++ more → ack_by_type (type_of ack) bytes ≡ ack
 ack_reads None front more bytes is size e = refl
 ack_reads (Some ack) front more bytes is size e =
     let fields = ack_fields ack in
@@ -145,7 +151,7 @@ is_ack bytes h k = record {
   write = number_at-lt bytes 84 8 h (omega arith);
 }
 
-is_front : (bytes : List ℕ) (ack : Option Ack) → AreBytes bytes → 64 ≤ length bytes → AckFits ack → IsGhes (front_at bytes ack)
+is_front : (bytes : List ℕ) (ack : Option Ack) → AreBytes bytes → 64 ≤ length bytes → IfSome ack IsAck → IsGhes (front_at bytes ack)
 is_front bytes ack h k fits = record {
   id = number_at-lt bytes 2 2 h (omega arith);
   related = number_at-lt bytes 4 2 h (omega arith);

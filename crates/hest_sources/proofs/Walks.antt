@@ -4,10 +4,10 @@ use Rattle.std.proofs.lemmas.Bool.{eqb-true, eq-eqb, ne_eqb}
 use Rattle.std.proofs.lemmas.List.{nil_from_length}
 use Rattle.base_model.specs.Bytes.{number_at, AreBytes}
 use Rattle.base_model.proofs.BytesLemmas.{AreBytes-drop}
-use Rattle.apei_bytes.specs.Walk.{item_count}
+use Rattle.apei_bytes.specs.Walk.{AreItems, item_count}
 use Rattle.apei_bytes.proofs.Walks.{GetsOn, IsFaithful, counts as items_counted, counts_again as items_again}
 use Rattle.hest_sources.specs.declared.sources.HestSource.{HestSource}
-use Rattle.hest_sources.specs.Layout.{AreSources, IsSource}
+use Rattle.hest_sources.specs.Layout.{IsSource}
 use Rattle.hest_sources.specs.Walk.{structure_walk, sources_in, source_count}
 use Rattle.hest_sources.proofs.Lengths.{measured, length_low, source_is, source_again}
 
@@ -32,6 +32,10 @@ faithful = record {
       ne_eqb (length (front ++ rest)) 0 (λ z. omega arith);
   ends_again = λ rest is. eq-eqb (length rest) 0 (ap length is);
 }
+
+-- these sources stand one after another, from a place on, and nothing behind them
+abbrev pub AreSources : ℕ → List HestSource → List ℕ → Type 0
+AreSources = AreItems IsSource (λ rest. rest ≡ [])
 
 -- what was counted stands there
 pub record Counts (n : ℕ) (table : List ℕ) : Type 0 where

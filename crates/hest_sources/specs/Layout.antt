@@ -1,7 +1,6 @@
 -- The bytes of error source structures (ACPI 6.4, 18.3.2).
-use Rattle.std.specs.Prelude.{◌≡◌, ℕ, ◌+◌, ◌*◌, ◌^◌, ◌<◌, ◌≤◌, List, [], ◌∷◌, ◌++◌, length, Option, Some, None, false, ◌==◌, ◌||◌, nat_le, nat_lt, if◌then◌else◌, Result, Ok, Err}
+use Rattle.std.specs.Prelude.{◌≡◌, ℕ, ◌+◌, ◌*◌, ◌^◌, ◌<◌, ◌≤◌, List, [], ◌∷◌, ◌++◌, length, Option, Some, None, IfSome, false, ◌==◌, ◌||◌, nat_le, nat_lt, if◌then◌else◌, Result, Ok, Err}
 use Rattle.base_model.specs.Bytes.{part, number_at, spelled, joined}
-use Rattle.apei_bytes.specs.Walk.{AreItems}
 use Rattle.apei_tables.specs.declared.structure.Gas.{Gas}
 use Rattle.apei_tables.specs.GasLayout.{spelling, IsGas}
 use Rattle.hest_sources.specs.declared.sources.Ghes.{Ghes}
@@ -37,13 +36,10 @@ ghes_fields source =
     ∷ spelled 4 source.block_len
     ∷ []
 
--- and of its acknowledgement, 28 bytes
-abbrev pub ack_fields : Ack → List (List ℕ)
-ack_fields ack = spelling ack.register ∷ spelled 8 ack.preserve ∷ spelled 8 ack.write ∷ []
-
+-- and the 28 bytes of its acknowledgement
 abbrev pub ack_bytes : Option Ack → List ℕ
 ack_bytes None = []
-ack_bytes (Some ack) = joined (ack_fields ack)
+ack_bytes (Some ack) = joined (spelling ack.register ∷ spelled 8 ack.preserve ∷ spelled 8 ack.write ∷ [])
 
 unfoldable pub ghes_bytes : Ghes → List ℕ
 ghes_bytes source = joined (ghes_fields source) ++ ack_bytes source.ack
@@ -53,10 +49,6 @@ pub record IsAck (ack : Ack) : Type 0 where
   pub register : IsGas ack.register
   pub preserve : ack.preserve < 2 ^ 64
   pub write : ack.write < 2 ^ 64
-
-abbrev pub AckFits : Option Ack → Type 0
-AckFits None = Unit {0}
-AckFits (Some ack) = IsAck ack
 
 pub record IsGhes (source : Ghes) : Type 0 where
   pub id : source.id < 2 ^ 16
@@ -69,7 +61,7 @@ pub record IsGhes (source : Ghes) : Type 0 where
   pub status : IsGas source.status
   pub notify : length source.notify ≡ 28
   pub block_len : source.block_len < 2 ^ 32
-  pub ack : AckFits source.ack
+  pub ack : IfSome source.ack IsAck
 
 -- the length of a structure with machine check banks, whose number stands at a place
 abbrev pub length_with_banks : ℕ → List ℕ → ℕ → ℕ → Result ℕ HestError
@@ -89,23 +81,12 @@ length_by_type kind at bytes =
     else if kind == 10 then Ok 92
     else Err (UnknownType at kind)
 
--- a structure of a type that isn't generic, all of its bytes
-pub record IsOther (at kind place len : ℕ) (bytes : List ℕ) : Type 0 where
-  pub place_is : place ≡ at
-  pub len_is : len ≡ length bytes
-  pub head : 2 ≤ length bytes
-  pub kind_is : number_at bytes 0 2 ≡ kind
-  pub not_generic : ((kind == 9) || (kind == 10)) ≡ false
-  pub length_is : length_by_type kind at bytes ≡ Ok (length bytes)
-
--- the bytes at a place are this source
+-- the bytes at a place are this source, all of them. One that isn't generic has the length that its type says
 abbrev pub IsSource : ℕ → HestSource → List ℕ → Type 0
 IsSource at (Generic source) bytes = IsGhes source × (bytes ≡ ghes_bytes source)
-IsSource at (Other kind place len) bytes = IsOther at kind place len bytes
-
--- these sources stand one after another, from a place on, and nothing behind them
-abbrev pub AreSources : ℕ → List HestSource → List ℕ → Type 0
-AreSources at sources bytes = AreItems IsSource (λ rest. rest ≡ []) at sources bytes
+IsSource at (Other kind place len) bytes =
+    (place ≡ at) × (len ≡ length bytes) × (2 ≤ length bytes) × (number_at bytes 0 2 ≡ kind)
+    × (((kind == 9) || (kind == 10)) ≡ false) × (length_by_type kind at bytes ≡ Ok (length bytes))
 
 -- the fields at their places
 abbrev pub gas_at : List ℕ → Gas
@@ -113,9 +94,6 @@ gas_at bytes = record { space = number_at bytes 0 1; width = number_at bytes 1 1
 
 abbrev pub ack_at : List ℕ → Ack
 ack_at bytes = record { register = gas_at (part bytes 64 12); preserve = number_at bytes 76 8; write = number_at bytes 84 8 }
-
-abbrev pub ack_by_type : ℕ → List ℕ → Option Ack
-ack_by_type kind bytes = if kind == 10 then Some (ack_at bytes) else None
 
 abbrev pub front_at : List ℕ → Option Ack → Ghes
 front_at bytes ack = record {
@@ -135,12 +113,14 @@ front_at bytes ack = record {
 unfoldable pub source_at : ℕ → List ℕ → ℕ → HestSource
 source_at at bytes len =
     let kind = number_at bytes 0 2 in
-    if (kind == 9) || (kind == 10) then Generic (front_at bytes (ack_by_type kind bytes)) else Other kind at len
+    if (kind == 9) || (kind == 10) then Generic (front_at bytes (if kind == 10 then Some (ack_at bytes) else None))
+    else Other kind at len
 
 -- the length of the structure at a place, or why there is none
-abbrev pub length_if_there : ℕ → List ℕ → Result ℕ HestError → Result ℕ HestError
-length_if_there at bytes (Ok len) = if nat_lt (length bytes) len then Err (Cut at) else Ok len
-length_if_there at bytes (Err error) = Err error
-
 unfoldable pub structure_length : ℕ → List ℕ → Result ℕ HestError
-structure_length at bytes = if nat_lt (length bytes) 2 then Err (Cut at) else length_if_there at bytes (length_by_type (number_at bytes 0 2) at bytes)
+structure_length at bytes =
+    if nat_lt (length bytes) 2 then Err (Cut at)
+    else elim (length_by_type (number_at bytes 0 2) at bytes) [
+      | Ok len ↦ if nat_lt (length bytes) len then Err (Cut at) else Ok len
+      | Err error ↦ Err error
+    ]

@@ -1,14 +1,14 @@
 -- What a Hardware Error Source Table is, and why bytes don't begin with one.
-use Rattle.std.specs.Prelude.{◌≡◌, ℕ, ◌≤◌, List, length, take, drop, codes, ◌==◌, if◌then◌else◌, Option, Some, None, Result, Ok, Err}
+use Rattle.std.specs.Prelude.{◌≡◌, ℕ, ◌≤◌, List, [], length, take, drop, codes, ◌==◌, if◌then◌else◌, Option, Some, None, Ok, Err}
 use Rattle.base_model.specs.Bytes.{number_at}
+use Rattle.apei_bytes.specs.Walk.{AreItems}
 use Rattle.apei_tables.specs.declared.headers.Header.{Header}
-use Rattle.apei_tables.specs.declared.headers.TableError.{TableError}
 use Rattle.apei_tables.specs.Layout.{IsHeader}
 use Rattle.apei_tables.specs.Tables.{IsTable, FindsTable, refusal as table_refusal}
 use Rattle.hest_sources.specs.declared.sources.HestSource.{HestSource}
 use Rattle.hest_sources.specs.declared.tables.HestError.{HestError}
 use Rattle.hest_sources.specs.declared.tables.HestError.TheVariants.{Table, UnknownType, Cut, Count, Memory}
-use Rattle.hest_sources.specs.Layout.{AreSources}
+use Rattle.hest_sources.specs.Layout.{IsSource}
 use Rattle.hest_sources.specs.Walk.{source_count}
 
 abbrev pub signature : List ℕ
@@ -19,20 +19,20 @@ pub record IsHest (sources : List HestSource) (table : List ℕ) : Type 0 where
   pub is_table : (header : Header) × IsHeader header × IsTable header table × (header.signature ≡ signature)
   pub fixed : 40 ≤ length table
   pub count : number_at table 36 4 ≡ length sources
-  pub sources_are : AreSources 40 sources (drop 40 table)
+  pub sources_are : AreItems IsSource (λ rest. rest ≡ []) 40 sources (drop 40 table)
 
--- the count against the number that the walk found
-abbrev pub counted_wrong : ℕ → Result ℕ HestError → Option HestError
-counted_wrong declared (Ok found) = if declared == found then None else Some (Count declared found)
-counted_wrong declared (Err error) = Some error
-
-abbrev pub behind_header : List ℕ → Option TableError → Option HestError
-behind_header table None = counted_wrong (number_at table 36 4) (source_count table)
-behind_header table (Some error) = Some (Table error)
-
--- the first reason why bytes don't begin with such a table
+-- the first reason why bytes don't begin with such a table: that of any table, a fault of the walk, or another count than was walked
 abbrev pub refusal : List ℕ → Option HestError
-refusal bytes = behind_header (take (number_at bytes 4 4) bytes) (table_refusal signature 40 bytes)
+refusal bytes =
+    let table = take (number_at bytes 4 4) bytes in
+    let declared = number_at table 36 4 in
+    elim (table_refusal signature 40 bytes) [
+      | Some error ↦ Some (Table error)
+      | None ↦ elim (source_count table) [
+        | Ok found ↦ if declared == found then None else Some (Count declared found)
+        | Err error ↦ Some error
+      ]
+    ]
 
 -- an error is that reason, and want of memory comes only where there is none
 abbrev pub IsRefusal : List ℕ → HestError → Type 0

@@ -1,10 +1,10 @@
 // One error source structure.
-ghost use Rattle.std.specs.Prelude.{◌≡◌, ◌+◌, ◌≤◌, ◌<◌, length, Ok, IfOk, IfErr};
+ghost use Rattle.std.specs.Prelude.{◌≡◌, ◌+◌, ◌≤◌, ◌<◌, length, Some, Ok, IfOk, IfErr};
 ghost use Rattle.base_model.specs.Bytes.{part, joined};
 ghost use Rattle.apei_bytes.specs.Writing.{Wrote};
 ghost use Rattle.apei_tables.specs.GasLayout.{spelling};
 ghost use Rattle.hest_sources.specs.Tables.{IsMalformed};
-ghost use Rattle.hest_sources.specs.Layout.{type_of, size_of, ghes_fields, ack_fields, ghes_bytes, length_with_banks, length_by_type, gas_at, ack_at, front_at, source_at, structure_length};
+ghost use Rattle.hest_sources.specs.Layout.{type_of, size_of, ghes_fields, ack_bytes, ghes_bytes, length_with_banks, length_by_type, gas_at, ack_at, front_at, source_at, structure_length};
 
 use crate::tables::HestError;
 use apei_bytes::{
@@ -139,7 +139,7 @@ impl Ghes {
 impl Ack {
     fn put(&self, out: &mut [u8]) -> usize
         requires { 92 ≤ length out.old }
-        ensures wrote { Wrote out.old out.new 64 92 (joined (ack_fields self.now)) }
+        ensures wrote { Wrote out.old out.new 64 92 (ack_bytes (Some self.now)) }
         ensures end { result ≡ 92 }
     {
         let preserve = put_gas(out, 64, &self.register);

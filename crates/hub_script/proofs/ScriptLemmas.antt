@@ -8,7 +8,7 @@ use Rattle.script_lines.specs.declared.lengths.TheConstants.{LONGEST_LINE}
 use Rattle.apei_notify.specs.Telling.{Hearing}
 use Rattle.script_lines.specs.Causes.{HasSourceCause, HasSinkCause}
 use Rattle.script_lines.specs.Lines.{Line as TextLine, Reading, lines_of, IsTooLong, IsNextLine}
-use Rattle.script_lines.specs.Played.{IsLineOf, AreInGrammar, ArePlayed}
+use Rattle.script_lines.specs.Played.{IsLineOf, AreInGrammar}
 use Rattle.script_lines.specs.Reads.{HasRead, StandsAt, AreReadInOrder, last_line}
 use Rattle.hub_script.specs.HubGrammar.{IsLine}
 use Rattle.hub_script.specs.HubText.{IsWritten}
@@ -20,10 +20,10 @@ use Rattle.hub_script.specs.Lines.{PlaysLine, PlaysUnwritten, TextIs, PairsAreNa
 use Rattle.hub_script.proofs.Terms.{GivesTable}
 use Rattle.hub_script.specs.History.{Played, Follows, stage_behind, text_of_played}
 use Rattle.hub_script.specs.Scripts.{IsUnwritten, PlaysScript, ServesScript}
-use Rattle.script_lines.specs.Ends.{EndsReading, IsBadFrom, fault_of}
+use Rattle.script_lines.specs.Ends.{EndsReading, fault_of}
 use Rattle.script_lines.specs.declared.ending.ScriptEnd.{ScriptEnd}
 use Rattle.script_lines.specs.declared.ending.ScriptEnd.TheVariants.{Done, BadLine, SinkFault, Memory}
-use Rattle.script_lines.proofs.PlayedLemmas.{ArePlayed-push, is_line, is_bad, stops_at, ends_behind, whole, not_memory, ends_none as lines_end, is_done as lines_done}
+use Rattle.script_lines.proofs.PlayedLemmas.{ArePlayed, IsBadFrom, ArePlayed-push, is_line, is_bad, stops_at, ends_behind, whole, not_memory, ends_none as lines_end, is_done as lines_done}
 use Rattle.hub_script.proofs.ServedLemmas.{are_served}
 
 -- a line within the lengths has no more bytes than are parsed

@@ -4,12 +4,9 @@ use Rattle.std.specs.List.{flat_map}
 use Rattle.apei_notify.specs.Telling.{Hearing}
 use Rattle.hest_sources.specs.declared.sources.Ghes.{Ghes}
 use Rattle.hest_sources.specs.declared.sources.HestSource.{HestSource}
-use Rattle.ghes_ack.specs.Machine.{zeros}
-use Rattle.ghes_hub.specs.Deals.{dealt_to}
-use Rattle.ghes_hub.specs.Hubs.{HubState, Call, DoAll, Serves, sources_in}
-use Rattle.ghes_hub.specs.Layouts.{layout_kind}
-use Rattle.ghes_hub.specs.Opens.{IsOpened}
-use Rattle.ghes_hub.specs.Refusals.{generics, layout_of}
+use Rattle.ghes_hub.specs.Hubs.{HubState, Call, DoAll, Serves}
+use Rattle.ghes_hub.specs.Opens.{IsOpened, opened_source}
+use Rattle.ghes_hub.specs.Refusals.{generics}
 use Rattle.hub_script.specs.HubGrammar.{Line}
 use Rattle.hub_script.specs.Replies.{text_of_replies}
 use Rattle.hub_script.specs.Stages.{HubStage, Waiting, Serving}
@@ -42,5 +39,5 @@ pub data AreServed {L : Type 0} (hearing : L → Hearing) (listeners : List L) (
   NoHub : calls ≡ [] → AreServed hearing listeners calls (Waiting listeners)
   ByHub : (table : List HestSource) (first last : HubState L) → IsOpened table listeners first → DoAll hearing calls first last
       → ((i : ℕ) (source : Ghes) → slice_get (generics table) i ≡ Some source
-      → Serves hearing (layout_kind (layout_of i source)) i (zeros source.block_len) (dealt_to (sources_in first) i 0 listeners) calls last)
+      → Serves hearing (opened_source listeners first i source) calls last)
       → AreServed hearing listeners calls (Serving last)

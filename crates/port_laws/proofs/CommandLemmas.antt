@@ -134,8 +134,8 @@ writes_own first port bytes budget result left last writes =
 -- a read divides the flash as before
 read_divides : (first last : MachineState) (id : ℕ) (result : Result (Unit {0}) ClientError) → ReadMade first last id result → last.device.store.layout ≡ first.device.store.layout
 read_divides first last id result made = elim made as (λ result made. last.device.store.layout ≡ first.device.store.layout) [
-  | IsRead found body generation asked is_named here fits range cursor ↦ asked.leaves.equivalent.layout
-  | IsRefused refusal error asked refused is range cursor ↦ asked.leaves.equivalent.layout
+  | IsRead found body generation asked is_named here fits range cursor ↦ asked.looked.equivalent.layout
+  | IsRefused refusal error asked refused is range cursor ↦ asked.looked.equivalent.layout
   | IsFailed leaves rose range cursor ↦ leaves.equivalent.layout
 ]
 

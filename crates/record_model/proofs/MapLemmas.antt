@@ -1,10 +1,22 @@
 -- Laws of the record map.
-use Rattle.std.proofs.Common.{◌≡◌, ℕ, ◌+◌, ◌-◌, Bool, false, cond, List, length, Option, Some, None, ap, ◌∙◌, arith}
+use Rattle.std.proofs.Common.{◌≡◌, ℕ, ◌+◌, ◌-◌, Bool, false, cond, nat_eq, List, length, Option, Some, None, ap, ◌∙◌, arith}
 use Rattle.std.specs.Prelude.{nat_lt, is_none}
 use Rattle.std.specs.FinMap.{get}
 use Rattle.base_model.specs.Layout.{Layout, room_of}
 use Rattle.record_model.specs.Records.{Stored, is_reserved, parts_of, parts_in}
-use Rattle.record_model.specs.RecordMap.{free_by, Command, Write, Refusal, Failed, NoSpace, is_last_generation, slots_wanted, refusal_of, made_by, after}
+use Rattle.record_model.specs.RecordMap.{LAST_GENERATION, Command, Write, Refusal, Failed, NoSpace, refusal_of, made_by, after}
+
+-- what a write finds under its identifier, the free slots that it wants, and those that there are
+abbrev pub is_last_generation : Option (List ℕ × ℕ) → Bool
+is_last_generation None = false
+is_last_generation (Some kept) = nat_eq kept.1 LAST_GENERATION
+
+abbrev pub slots_wanted : ℕ → Option (List ℕ × ℕ) → ℕ
+slots_wanted parts None = parts + 1
+slots_wanted parts (Some kept) = parts
+
+abbrev pub free_by : Layout → Stored → ℕ
+free_by layout stored = layout.slots - parts_in (room_of layout) stored
 
 -- a new identifier is refused only for want of space
 pub refusal_of-new : (layout : Layout) (free id : ℕ) (bytes : List ℕ) (stored : Stored) → is_reserved id ≡ false → get stored id ≡ None → free + parts_in (room_of layout) stored ≡ layout.slots

@@ -5,8 +5,13 @@ use Rattle.std.specs.FinMap.{get, len}
 use Rattle.std.proofs.lemmas.Bool.{lt-ltb, le-ltb, eq-eqb, ne_eqb}
 use Rattle.base_model.specs.Layout.{Layout, room_of}
 use Rattle.record_model.specs.Records.{Stored, is_reserved, parts_of, parts_in}
-use Rattle.record_model.specs.RecordMap.{free_by, changes_of_parts, Command, Write, Clear, Read, Refusal, Failed, NoSpace, NotFound, Empty, LAST_GENERATION, is_last_generation, slots_wanted, changes_of_write, changes_made, changes_of, refusal_of}
-use Rattle.record_model.proofs.MapLemmas.{refusal_of-new}
+use Rattle.record_model.specs.RecordMap.{changes_of_parts, Command, Write, Clear, Read, Refusal, Failed, NoSpace, NotFound, Empty, LAST_GENERATION, changes_of, refusal_of}
+use Rattle.record_model.proofs.MapLemmas.{free_by, is_last_generation, slots_wanted, refusal_of-new}
+
+-- the changes of a write of so many bytes
+abbrev pub changes_of_write : Layout → ℕ → Option (List ℕ × ℕ) → ℕ
+changes_of_write layout size None = changes_of_parts layout size (parts_of (room_of layout) size) + 1
+changes_of_write layout size (Some kept) = changes_of_parts layout size (parts_of (room_of layout) size) + 2
 
 -- no record has identifier 0
 pub allowed_not_zero : (id : ℕ) → is_reserved id ≡ false → id ≢ 0
@@ -99,13 +104,18 @@ pub read_taken : (layout : Layout) (id : ℕ) (stored : Stored) (kept : List ℕ
 read_taken layout id stored kept some allowed is = read_by layout id stored (Some kept) some (allowed_not_zero id allowed) is
 
 -- the flash changes that a command takes
-pub changes_of-done : (layout : Layout) (command : Command) (stored : Stored) → refusal_of layout command stored ≡ None → changes_of layout command stored ≡ changes_made layout command stored
+abbrev changes_made : Layout → Stored → Command → ℕ
+changes_made layout stored (Write id bytes) = changes_of_write layout (length bytes) (get stored id)
+changes_made layout stored (Clear id) = 1
+changes_made layout stored command = 0
+
+pub changes_of-done : (layout : Layout) (command : Command) (stored : Stored) → refusal_of layout command stored ≡ None → changes_of layout command stored ≡ changes_made layout stored command
 unfolding changes_of
-changes_of-done layout command stored none = ap (λ (o : Option Refusal). cond (is_none o) (changes_made layout command stored) 0) none
+changes_of-done layout command stored none = ap (λ (o : Option Refusal). cond (is_none o) (changes_made layout stored command) 0) none
 
 pub changes_of-refused : (layout : Layout) (command : Command) (stored : Stored) (refusal : Refusal) → refusal_of layout command stored ≡ Some refusal → changes_of layout command stored ≡ 0
 unfolding changes_of
-changes_of-refused layout command stored refusal some = ap (λ (o : Option Refusal). cond (is_none o) (changes_made layout command stored) 0) some
+changes_of-refused layout command stored refusal some = ap (λ (o : Option Refusal). cond (is_none o) (changes_made layout stored command) 0) some
 
 pub changes_of-new : (layout : Layout) (id : ℕ) (bytes : List ℕ) (stored : Stored) → refusal_of layout (Write id bytes) stored ≡ None → get stored id ≡ None
     → changes_of layout (Write id bytes) stored ≡ changes_of_parts layout (length bytes) (parts_of (room_of layout) (length bytes)) + 1

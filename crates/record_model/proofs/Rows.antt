@@ -2,7 +2,8 @@
 use Rattle.std.proofs.Common.{◌≡◌, Some, None, refl, arith, []}
 use Rattle.base_model.specs.Layout.{Layout, reach_of}
 use Rattle.record_model.specs.Records.{parts_of, part_len}
-use Rattle.record_model.specs.RecordMap.{pieces_of_parts, changes_of_write}
+use Rattle.record_model.specs.RecordMap.{pieces_of_parts}
+use Rattle.record_model.proofs.RefusalLemmas.{changes_of_write}
 
 abbrev layout : Layout
 layout = record { sector = 4096; per_slot = 2; slots = 4; slot_size = 8192; product = refl; least_sector = omega arith; few_sectors = omega arith; few_slots = omega arith; many_slots = omega arith; least_slot = omega arith; greatest_slot = omega arith }

@@ -1,5 +1,5 @@
 -- The record map: what the commands on records make of it, and when each is refused. It knows no flash.
-use Rattle.std.specs.Prelude.{◌≡◌, ℕ, zero, suc, ◌+◌, ◌-◌, ◌*◌, ◌/◌, ◌^◌, ◌<◌, ◌≤◌, Bool, false, ◌==◌, ◌||◌, nat_lt, if◌then◌else◌, List, length, Option, Some, None, is_none, is_some, IsSome}
+use Rattle.std.specs.Prelude.{◌≡◌, ℕ, zero, suc, ◌+◌, ◌-◌, ◌*◌, ◌/◌, ◌^◌, ◌<◌, ◌≤◌, false, ◌==◌, ◌||◌, nat_lt, if◌then◌else◌, List, length, Option, Some, None, is_none, is_some, IsSome}
 use Rattle.std.specs.FinMap.{get, insert, remove, len}
 use Rattle.base_model.specs.Layout.{Layout, room_of}
 use Rattle.record_model.specs.Records.{Stored, is_reserved, parts_of, part_len, parts_in}
@@ -29,26 +29,15 @@ abbrev pub next_generation : Option (List ℕ × ℕ) → ℕ
 next_generation None = 1
 next_generation (Some kept) = kept.1 + 1
 
-abbrev pub is_last_generation : Option (List ℕ × ℕ) → Bool
-is_last_generation None = false
-is_last_generation (Some kept) = kept.1 == LAST_GENERATION
-
--- the free slots that a write of so many parts wants: a new identifier leaves one free for the replacements to come
-abbrev pub slots_wanted : ℕ → Option (List ℕ × ℕ) → ℕ
-slots_wanted parts None = parts + 1
-slots_wanted parts (Some kept) = parts
-
--- the slots that are free by the map
-abbrev pub free_by : Layout → Stored → ℕ
-free_by layout stored = layout.slots - parts_in (room_of layout) stored
-
--- why a command is refused by the map of a store of this layout: the first that applies. A read of identifier 0 asks for
--- the least one
+-- why a command is refused by the map of a store of this layout: the first that applies. A write of a new identifier leaves one slot
+-- free for the replacements to come. A read of identifier 0 asks for the least one
 unfoldable pub refusal_of : Layout → Command → Stored → Option Refusal
 refusal_of layout (Write id bytes) stored =
+    let free = layout.slots - parts_in (room_of layout) stored in
+    let parts = parts_of (room_of layout) (length bytes) in
     if is_reserved id then Some Failed
-    else (if is_last_generation (get stored id) then Some Failed
-    else (if nat_lt (free_by layout stored) (slots_wanted (parts_of (room_of layout) (length bytes)) (get stored id)) then Some NoSpace
+    else (if elim (get stored id) [ None ↦ false | Some kept ↦ kept.1 == LAST_GENERATION ] then Some Failed
+    else (if nat_lt free (elim (get stored id) [ None ↦ parts + 1 | Some kept ↦ parts ]) then Some NoSpace
     else None))
 refusal_of layout (WriteOversize size room) stored = Some TooLong
 refusal_of layout (Clear id) stored =
@@ -97,17 +86,15 @@ pieces_of_parts room size (suc n) = pieces_of_parts room size n + pieces_of (par
 abbrev pub changes_of_parts : Layout → ℕ → ℕ → ℕ
 changes_of_parts layout size n = n * (layout.per_slot + 2) + pieces_of_parts (room_of layout) size n
 
--- one more opens the gate, and one ends the record that is replaced
-abbrev pub changes_of_write : Layout → ℕ → Option (List ℕ × ℕ) → ℕ
-changes_of_write layout size None = changes_of_parts layout size (parts_of (room_of layout) size) + 1
-changes_of_write layout size (Some kept) = changes_of_parts layout size (parts_of (room_of layout) size) + 2
-
 -- the flash changes that a command takes which is not refused: a write fills the slot of each part, opens the gate of the
 -- first one, and kills the first slot of the record that it replaces; a clear kills a slot
-abbrev pub changes_made : Layout → Command → Stored → ℕ
-changes_made layout (Write id bytes) stored = changes_of_write layout (length bytes) (get stored id)
-changes_made layout (Clear id) stored = 1
-changes_made layout command stored = 0
-
 unfoldable pub changes_of : Layout → Command → Stored → ℕ
-changes_of layout command stored = if is_none (refusal_of layout command stored) then changes_made layout command stored else 0
+changes_of layout command stored =
+    if is_none (refusal_of layout command stored) then elim command [
+      | Write id bytes ↦
+          let filling = changes_of_parts layout (length bytes) (parts_of (room_of layout) (length bytes)) in
+          elim (get stored id) [ None ↦ filling + 1 | Some kept ↦ filling + 2 ]
+      | Clear id ↦ 1
+      | other ↦ 0
+    ]
+    else 0

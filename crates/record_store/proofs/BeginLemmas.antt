@@ -1,5 +1,5 @@
 -- A write that has begun.
-use Rattle.std.proofs.Common.{◌≡◌, ℕ, ◌+◌, ◌*◌, ◌-◌, ◌<◌, ◌≤◌, Bool, true, false, List, ◌++◌, length, take, drop, Option, Ok, Err, refl, sym, ap, subst, ◌∙◌, arith, length-append, length-drop}
+use Rattle.std.proofs.Common.{◌≡◌, ℕ, ◌+◌, ◌*◌, ◌-◌, ◌<◌, ◌≤◌, Bool, true, false, List, ◌++◌, length, take, drop, Option, None, Ok, Err, refl, sym, ap, subst, ◌∙◌, arith, length-append, length-drop}
 use Rattle.std.specs.Prelude.{is_some, ◌==◌}
 use Rattle.std.specs.List.{list_any}
 use Rattle.std.specs.FinMap.{get}
@@ -9,7 +9,7 @@ use Rattle.flash_model.specs.Layouts.{layout_of}
 use Rattle.base_model.specs.Flash.{FlashState, Told}
 use Rattle.base_model.specs.Layout.{reach_of}
 use Rattle.record_model.specs.Records.{entry_at, parts_of, NearlyOnlyFirstUp}
-use Rattle.record_model.specs.RecordMap.{next_generation}
+use Rattle.record_model.specs.RecordMap.{Write, refusal_of}
 use Rattle.record_model.specs.Plan.{StandsAtStage, made_at}
 use Rattle.record_model.proofs.StepLemmas.{first_stage}
 use Rattle.record_store.specs.Drafts.{IsDraft, IsStage, plan_of, stage_of}
@@ -20,7 +20,7 @@ use Rattle.record_slots.specs.declared.found.SlotOf.{SlotOf}
 use Rattle.record_slots.specs.Listed.{free_slots, first_records}
 use Rattle.record_slots.proofs.FirstRecords.{free_slots-only}
 use Rattle.record_slots.proofs.TakenLemmas.{least_free}
-use Rattle.record_store.specs.Index.{IsListing, IsPlaceFound}
+use Rattle.record_store.specs.Index.{IsListing}
 use Rattle.record_store.specs.Store.{StoreView, Pending, Idle, Writing, records_of, slots_for, IsReady}
 use Rattle.record_store.specs.Answers.{StartsWrite, RefusesWrite, ReadsExactly, HasDoubtAtStart, HasFaultsOf, EndsCopies, copies_of, is_flash}
 use Rattle.record_store.specs.Calls.{OnlyStarts}
@@ -59,7 +59,9 @@ front_is bytes rest buffer n is long =
 module _ (tells : Type 0) (geometry : Geometry) (flash : FlashState) (found : Found) (id : ℕ) (bytes written : List ℕ) (draft : Draft) (stage : Stage) (replaced : Option SlotOf) where
   -- what a plan says, and where its first stage stands
   pub record Begins : Type 0 where
-    pub is : IsPlanned tells geometry found flash.told.image id (length bytes) draft replaced
+    pub is : IsPlanned tells geometry found flash.told.image draft replaced
+    pub of_id : draft.id ≡ id
+    pub of_len : draft.len ≡ length bytes
     pub least : 128 ≤ length bytes
     pub most : length bytes ≤ reach_of (geometry.slot_size - 64)
     pub front : take draft.len written ≡ bytes
@@ -67,7 +69,7 @@ module _ (tells : Type 0) (geometry : Geometry) (flash : FlashState) (found : Fo
     pub form : (body : List ℕ) → IsDraft geometry draft body → IsStage geometry draft body stage
 
   begun_draft : Begins → IsListing geometry.slots geometry.slot_size found → IsDraft geometry draft bytes
-  begun_draft begins listing = planned_draft tells geometry found flash.told.image id bytes draft replaced begins.is listing begins.least begins.most
+  begun_draft begins listing = planned_draft tells geometry found flash.told.image bytes draft replaced begins.is begins.of_len listing begins.least begins.most
 
   begun_form : Begins → IsListing geometry.slots geometry.slot_size found → IsWrite geometry found bytes draft stage replaced
   begun_form begins listing =
@@ -75,7 +77,7 @@ module _ (tells : Type 0) (geometry : Geometry) (flash : FlashState) (found : Fo
       record {
         planned = draft_is;
         at = begins.form bytes draft_is;
-        takes = planned_takes tells geometry found flash.told.image id (length bytes) draft replaced begins.is begins.least begins.most;
+        takes = planned_takes tells geometry found flash.told.image (length bytes) draft replaced begins.is begins.of_len begins.least begins.most;
         over = begins.is.over.within;
       }
 
@@ -83,7 +85,7 @@ module _ (tells : Type 0) (geometry : Geometry) (flash : FlashState) (found : Fo
       → KnowsDraft geometry found flash.told.image bytes draft stage replaced
   begun_knows begins listing told known =
       let is = begins.is in
-      let takes = planned_takes tells geometry found flash.told.image id (length bytes) draft replaced is begins.least begins.most in
+      let takes = planned_takes tells geometry found flash.told.image (length bytes) draft replaced is begins.of_len begins.least begins.most in
       let entry = entry_at geometry.slot_size geometry.slots flash.told.image in
       let here = is.over.place entry known.list in
       let free = least_free entry geometry.slots draft.parts found.free.items known.list.free in
@@ -93,15 +95,14 @@ module _ (tells : Type 0) (geometry : Geometry) (flash : FlashState) (found : Fo
           only = known.only;
           free = λ n any. free.free n (subst (λ (xs : List ℕ). list_any (λ m. n == m) xs ≡ true) takes.taken any);
           newest = λ k e h at_k key.
-              let less : e.generation < generation_over replaced = planned_newest geometry found flash.told.image id replaced known here k e h at_k (key ∙ is.of_id) in
+              let less : e.generation < generation_over replaced = planned_newest geometry found flash.told.image draft.id replaced known here k e h at_k key in
               let same : draft.generation ≡ generation_over replaced = is.generation in
               omega arith;
         };
-        generation = is.generation ∙ planned_generation geometry flash.told.image id replaced here
-            ∙ ap (λ (n : ℕ). next_generation (get (records_of (layout_of geometry) flash.told.image) n)) (sym is.of_id);
-        over = subst (λ (n : ℕ). IsPlaceFound entry geometry.slots n replaced) (sym is.of_id) here;
+        generation = is.generation ∙ planned_generation geometry flash.told.image draft.id replaced here;
+        over = here;
         stands = subst (λ s. StandsAtStage (layout_of geometry) (plan_of draft bytes) flash.told.image s) (sym (begins.at bytes (begun_draft begins listing)))
-            (planned_stands tells geometry found flash.told.image id bytes draft replaced is begins.least begins.most told);
+            (planned_stands tells geometry found flash.told.image bytes draft replaced is begins.of_len begins.least begins.most told);
       }
 
   pub begun_store : (new : FlashState) (buffer : List ℕ) (doubt : Bool) (work : Begun) (v : StoreView) → Begins
@@ -131,7 +132,7 @@ module _ (tells : Type 0) (geometry : Geometry) (flash : FlashState) (found : Fo
       ap (made_at (layout_of geometry) (plan_of draft bytes)) (begins.at bytes (begun_draft begins listing)) ∙ first_made (layout_of geometry) (plan_of draft bytes) in
       ap (λ (xs : List ℕ). Writing draft.id xs (slots_in draft) (is_some replaced) (made_at (layout_of geometry) (plan_of draft xs) (stage_of stage))) begins.front
       ∙ ap (λ (n : ℕ). Writing draft.id bytes (slots_in draft) (is_some replaced) n) none
-      ∙ ap (λ (n : ℕ). Writing n bytes (slots_in draft) (is_some replaced) 0) begins.is.of_id
+      ∙ ap (λ (n : ℕ). Writing n bytes (slots_in draft) (is_some replaced) 0) begins.of_id
 
   pub begun_answer : (new : FlashState) (buffer : List ℕ) (doubt : Bool) (work : Begun) (v : StoreView) (x : Unit {0}) → Begins
       → IsStore tells geometry flash found buffer doubt work → view_of geometry flash doubt (pending_of (layout_of geometry) buffer work) ≡ v → IsReady v → (tells → new.told ≡ flash.told)
@@ -140,18 +141,20 @@ module _ (tells : Type 0) (geometry : Geometry) (flash : FlashState) (found : Fo
   begun_answer new buffer doubt work v x begins store is ready same sized told =
       let known = ready_inside tells geometry flash found buffer doubt work v store is ready told in
       let planned = begins.is in
-      let takes = planned_takes tells geometry found flash.told.image id (length bytes) draft replaced planned begins.least begins.most in
+      let takes = planned_takes tells geometry found flash.told.image (length bytes) draft replaced planned begins.of_len begins.least begins.most in
       let entry = entry_at geometry.slot_size geometry.slots flash.told.image in
       let free : slots_in draft ≡ take (parts_of (geometry.slot_size - 64) (length bytes)) (free_slots entry geometry.slots) =
-      takes.taken ∙ ap (λ (n : ℕ). take n found.free.items) planned.parts ∙ ap (take (parts_of (geometry.slot_size - 64) (length bytes))) known.list.free in
+      takes.taken ∙ ap (λ (n : ℕ). take n found.free.items) (planned.parts ∙ ap (parts_of (geometry.slot_size - 64)) begins.of_len) ∙ ap (take (parts_of (geometry.slot_size - 64) (length bytes))) known.list.free in
       let here : slots_in draft ≡ slots_for (view_of geometry new doubt Idle) (length bytes) =
       free ∙ ap (take (parts_of (geometry.slot_size - 64) (length bytes))) (sym (free_slots-only geometry.slot_size geometry.slots flash.told.image known.only))
       ∙ ap (λ (t : Told). take (parts_of (geometry.slot_size - 64) (length bytes)) (free_slots (first_records (entry_at geometry.slot_size geometry.slots t.image) geometry.slots) geometry.slots)) (sym (same told)) in
       subst (λ (u : StoreView). StartsWrite u (view_of geometry new doubt (pending_of (layout_of geometry) written (works.Write draft stage replaced))) id bytes (Ok x)) is (
-        planned_taken tells geometry found flash.told.image id bytes draft replaced planned store.listing known (sized told),
+        subst (λ (n : ℕ). refusal_of (layout_of geometry) (Write n bytes) (records_of (layout_of geometry) flash.told.image) ≡ None) begins.of_id
+            (planned_taken tells geometry found flash.told.image bytes draft replaced planned begins.of_len store.listing known (sized told)),
         begun_pending begins store.listing ∙ ap (λ (xs : List ℕ). Writing id bytes xs (is_some replaced) 0) here
             ∙ ap (λ (b : Bool). Writing id bytes (slots_for (view_of geometry new doubt Idle) (length bytes)) b 0)
-            (planned_replaces geometry flash.told.image id replaced (planned.over.place entry known.list)),
+            (planned_replaces geometry flash.told.image draft.id replaced (planned.over.place entry known.list)
+            ∙ ap (λ (n : ℕ). is_some (get (records_of (layout_of geometry) flash.told.image) n)) begins.of_id),
       )
 
 -- what a start of a store that knows its records leaves of it and of its flash

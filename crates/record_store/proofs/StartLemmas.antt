@@ -1,5 +1,5 @@
 -- What a write begins with, from the lists.
-use Rattle.std.proofs.Common.{◌≡◌, ℕ, zero, suc, ◌+◌, ◌*◌, ◌-◌, ◌^◌, ◌<◌, ◌≤◌, Bool, true, false, List, [], ◌∷◌, length, take, drop, get_or, cond, Option, Some, None, refl, sym, ap, subst, ◌∙◌, arith, inl, inr, length-drop}
+use Rattle.std.proofs.Common.{◌≡◌, ℕ, zero, suc, ◌+◌, ◌*◌, ◌-◌, ◌<◌, ◌≤◌, Bool, true, false, List, [], ◌∷◌, length, take, drop, get_or, cond, Option, Some, None, refl, sym, ap, subst, ◌∙◌, arith, inl, inr, length-drop}
 use Rattle.std.specs.Prelude.{◌==◌, ◌||◌, is_some}
 use Rattle.std.specs.List.{list_any}
 use Rattle.std.specs.FinMap.{get}
@@ -75,32 +75,32 @@ same_front (suc n) (x ∷ xs) [] h l same = absurd (omega arith)
 same_front (suc n) (x ∷ xs) (y ∷ ys) h l same = cc (same 0 (omega arith), same_front n xs ys (omega arith) (omega arith) (λ i k. same (suc i) (omega arith)))
 
 -- the plan takes the free slots of least number
-planned_parts : (tells : Type 0) (geometry : Geometry) (found : Found) (image : List ℕ) (id len : ℕ) (draft : Draft) (replaced : Option SlotOf) → IsPlanned tells geometry found image id len draft replaced
+planned_parts : (tells : Type 0) (geometry : Geometry) (found : Found) (image : List ℕ) (draft : Draft) (replaced : Option SlotOf) → IsPlanned tells geometry found image draft replaced
     → draft.parts ≤ length found.free.items
-planned_parts tells geometry found image id len draft None is = let all : draft.parts + 1 ≤ length found.free.items = is.enough in omega arith
-planned_parts tells geometry found image id len draft (Some place) is = is.enough
+planned_parts tells geometry found image draft None is = let all : draft.parts + 1 ≤ length found.free.items = is.enough in omega arith
+planned_parts tells geometry found image draft (Some place) is = is.enough
 
-pub planned_takes : (tells : Type 0) (geometry : Geometry) (found : Found) (image : List ℕ) (id len : ℕ) (draft : Draft) (replaced : Option SlotOf) → IsPlanned tells geometry found image id len draft replaced
-    → 128 ≤ len → len ≤ reach_of (geometry.slot_size - 64) → TakesFree found draft
-planned_takes tells geometry found image id len draft replaced is least most =
+pub planned_takes : (tells : Type 0) (geometry : Geometry) (found : Found) (image : List ℕ) (len : ℕ) (draft : Draft) (replaced : Option SlotOf) → IsPlanned tells geometry found image draft replaced
+    → draft.len ≡ len → 128 ≤ len → len ≤ reach_of (geometry.slot_size - 64) → TakesFree found draft
+planned_takes tells geometry found image len draft replaced is long least most =
     let parts = parts_of_len geometry len least most in
-    let enough = planned_parts tells geometry found image id len draft replaced is in
+    let enough = planned_parts tells geometry found image draft replaced is in
     let four = is.four in
-    let counted = is.parts in
+    let counted : draft.parts ≡ parts_of (geometry.slot_size - 64) len = is.parts ∙ ap (parts_of (geometry.slot_size - 64)) long in
     record {
       enough = enough;
       taken = plan_slots draft.slots draft.parts (omega arith) (omega arith) ∙ same_front draft.parts draft.slots found.free.items (omega arith) enough is.taken;
     }
 
-pub planned_draft : (tells : Type 0) (geometry : Geometry) (found : Found) (image : List ℕ) (id : ℕ) (bytes : List ℕ) (draft : Draft) (replaced : Option SlotOf)
-    → IsPlanned tells geometry found image id (length bytes) draft replaced → IsListing geometry.slots geometry.slot_size found → 128 ≤ length bytes → length bytes ≤ reach_of (geometry.slot_size - 64)
+pub planned_draft : (tells : Type 0) (geometry : Geometry) (found : Found) (image bytes : List ℕ) (draft : Draft) (replaced : Option SlotOf)
+    → IsPlanned tells geometry found image draft replaced → draft.len ≡ length bytes → IsListing geometry.slots geometry.slot_size found → 128 ≤ length bytes → length bytes ≤ reach_of (geometry.slot_size - 64)
     → IsDraft geometry draft bytes
-planned_draft tells geometry found image id bytes draft replaced is listing least most =
+planned_draft tells geometry found image bytes draft replaced is long listing least most =
     let parts = parts_of_len geometry (length bytes) least most in
-    let takes = planned_takes tells geometry found image id (length bytes) draft replaced is least most in
+    let takes = planned_takes tells geometry found image (length bytes) draft replaced is long least most in
     let enough : draft.parts ≤ length found.free.items = takes.enough in
     let four = is.four in
-    let counted = is.parts in
+    let counted : draft.parts ≡ parts_of (geometry.slot_size - 64) (length bytes) = is.parts ∙ ap (parts_of (geometry.slot_size - 64)) long in
     let front = length-take (draft.parts - 1) (drop 1 draft.slots) in
     let behind = length-drop 1 draft.slots in
     let some : 1 ≤ draft.parts = omega arith in
@@ -110,12 +110,12 @@ planned_draft tells geometry found image id bytes draft replaced is listing leas
     record {
       plan = record {
         names = record { least = least; most = most; counted = omega arith; few = omega arith; below = below.1 };
-        allowed = ap is_reserved is.of_id ∙ is.allowed;
+        allowed = is.allowed;
         distinct = subst (λ (xs : List ℕ). AreDistinct xs) (sym takes.taken) distinct;
-        id = subst (λ (n : ℕ). n < 2 ^ 64) (sym is.of_id) is.id_fits;
+        id = is.id_fits;
         generation = is.generation_fits;
       };
-      len = sym is.of_len;
+      len = sym long;
       parts = counted;
       some = some;
       few = few;
@@ -139,15 +139,15 @@ mark_of (x ∷ slots) (b ∷ marks) (suc parts) n mark long each any = elim (cas
     behind true e h = absurd (both_ways true e refl)
     behind false e h = h
 
-pub planned_stands : (tells : Type 0) (geometry : Geometry) (found : Found) (image : List ℕ) (id : ℕ) (bytes : List ℕ) (draft : Draft) (replaced : Option SlotOf)
-    → IsPlanned tells geometry found image id (length bytes) draft replaced → 128 ≤ length bytes → length bytes ≤ reach_of (geometry.slot_size - 64) → tells
+pub planned_stands : (tells : Type 0) (geometry : Geometry) (found : Found) (image bytes : List ℕ) (draft : Draft) (replaced : Option SlotOf)
+    → IsPlanned tells geometry found image draft replaced → draft.len ≡ length bytes → 128 ≤ length bytes → length bytes ≤ reach_of (geometry.slot_size - 64) → tells
     → StandsAtStage (layout_of geometry) (plan_of draft bytes) image (first_stage (plan_of draft bytes))
 unfolding slot_at
-planned_stands tells geometry found image id bytes draft replaced is least most told =
+planned_stands tells geometry found image bytes draft replaced is long least most told =
     let parts = parts_of_len geometry (length bytes) least most in
     let four = is.four in
     let four_marks = is.four_marks in
-    let counted = is.parts in
+    let counted : draft.parts ≡ parts_of (geometry.slot_size - 64) (length bytes) = is.parts ∙ ap (parts_of (geometry.slot_size - 64)) long in
     first_stage_stands (layout_of geometry) (plan_of draft bytes) image
     (λ n any. sym (mark_of draft.slots draft.marked draft.parts n (λ k. tail_at image (k * geometry.slot_size) geometry.slot_size == tail_mark) (omega arith) (is.marks told)
     (subst (λ (xs : List ℕ). list_any (λ m. n == m) xs ≡ true) (plan_slots draft.slots draft.parts (omega arith) (omega arith)) any)))
@@ -219,21 +219,21 @@ planned_newest geometry found image id (Some place) known here k e h at_k is =
     omega arith
 
 -- the map takes the record of a plan
-pub planned_taken : (tells : Type 0) (geometry : Geometry) (found : Found) (image : List ℕ) (id : ℕ) (bytes : List ℕ) (draft : Draft) (replaced : Option SlotOf)
-    → IsPlanned tells geometry found image id (length bytes) draft replaced → IsListing geometry.slots geometry.slot_size found → KnowsSlots (layout_of geometry) image found → length image ≡ geometry.slot_size * geometry.slots
-    → refusal_of (layout_of geometry) (Write id bytes) (records_of (layout_of geometry) image) ≡ None
-planned_taken tells geometry found image id bytes draft None is listing known sized =
+pub planned_taken : (tells : Type 0) (geometry : Geometry) (found : Found) (image bytes : List ℕ) (draft : Draft) (replaced : Option SlotOf)
+    → IsPlanned tells geometry found image draft replaced → draft.len ≡ length bytes → IsListing geometry.slots geometry.slot_size found → KnowsSlots (layout_of geometry) image found → length image ≡ geometry.slot_size * geometry.slots
+    → refusal_of (layout_of geometry) (Write draft.id bytes) (records_of (layout_of geometry) image) ≡ None
+planned_taken tells geometry found image bytes draft None is long listing known sized =
     let all = allowed_new geometry found image listing known sized in
     let enough : draft.parts + 1 ≤ length found.free.items = is.enough in
-    let counted = is.parts in
-    write_new_taken (layout_of geometry) (length found.free.items) id bytes (records_of (layout_of geometry) image) is.allowed
-    (none_stored_at geometry image id (is.over.place (entry_at geometry.slot_size geometry.slots image) known.list)) all (omega arith)
-planned_taken tells geometry found image id bytes draft (Some place) is listing known sized =
+    let counted : draft.parts ≡ parts_of (geometry.slot_size - 64) (length bytes) = is.parts ∙ ap (parts_of (geometry.slot_size - 64)) long in
+    write_new_taken (layout_of geometry) (length found.free.items) draft.id bytes (records_of (layout_of geometry) image) is.allowed
+    (none_stored_at geometry image draft.id (is.over.place (entry_at geometry.slot_size geometry.slots image) known.list)) all (omega arith)
+planned_taken tells geometry found image bytes draft (Some place) is long listing known sized =
     let all = allowed_new geometry found image listing known sized in
     let enough : draft.parts ≤ length found.free.items = is.enough in
-    let counted = is.parts in
-    let had = some_stored_at geometry image id place (is.over.place (entry_at geometry.slot_size geometry.slots image) known.list) in
-    write_over_taken (layout_of geometry) (length found.free.items) id place.generation bytes had.0 (records_of (layout_of geometry) image) is.allowed had.1 is.over.not_last all (omega arith)
+    let counted : draft.parts ≡ parts_of (geometry.slot_size - 64) (length bytes) = is.parts ∙ ap (parts_of (geometry.slot_size - 64)) long in
+    let had = some_stored_at geometry image draft.id place (is.over.place (entry_at geometry.slot_size geometry.slots image) known.list) in
+    write_over_taken (layout_of geometry) (length found.free.items) draft.id place.generation bytes had.0 (records_of (layout_of geometry) image) is.allowed had.1 is.over.not_last all (omega arith)
 
 pub refused_no_space : (geometry : Geometry) (found : Found) (image : List ℕ) (id free : ℕ) (bytes : List ℕ) (replaced : Option SlotOf) → is_reserved id ≡ false → IsOver geometry found id replaced
     → free ≡ length found.free.items → free < slots_needed (parts_of (geometry.slot_size - 64) (length bytes)) replaced

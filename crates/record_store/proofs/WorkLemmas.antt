@@ -41,7 +41,7 @@ use Rattle.record_slots.proofs.OpenedLemmas.{IsChosen-opened}
 use Rattle.record_slots.proofs.SettledLemmas.{kill_can}
 use Rattle.record_store.specs.Index.{IsListOf, HasOpened, HasLost, HasItsParts, IsEntryOf, IsOlderCopy, IsOnlyCopy, IsPlaceFound}
 use Rattle.record_store.specs.Store.{Pending, Idle, Writing, records_of, IsAt, map_after, pending_after, changes_before_gate, changes_in_all}
-use Rattle.record_store.specs.Kept.{KnowsDraft, KnowsOldCopy, KnowsCleared, IsWrite, MayMake, HasMade, pending_of, work_after, slots_in, further_in, opened_place}
+use Rattle.record_store.specs.Kept.{KnowsDraft, KnowsOldCopy, KnowsCleared, IsWrite, MayMake, HasMade, kept_of, pending_of, work_after, slots_in, further_in, opened_place}
 use Rattle.record_store.specs.declared.work.Begun.TheVariants.{Nothing, Write, OldCopy, Clear}
 
 pub large_slot : (geometry : Geometry) → 65 ≤ geometry.slot_size
@@ -153,7 +153,7 @@ module _ (geometry : Geometry) (buffer : List ℕ) (draft : Draft) (number : ℕ
       → (tells → KnowsDraft geometry found old.image body draft (Fill number step) replaced)
       → (tells → Leaves old new (StaysKnown layout plan number old.image)) → IsStage geometry draft body next → stage_of next ≡ stage_after layout plan number (step_of step)
       → (tells → StandsAtStage layout plan new.image (stage_of next))
-      → HasMade tells geometry buffer old.image new.image found (Write draft (Fill number step) replaced) (Write draft next replaced)
+      → HasMade tells (kept_of geometry found buffer) old.image new.image (Write draft (Fill number step) replaced) (Write draft next replaced)
   filled_made tells found next old new form knows kept next_form is stands =
       let low = fill_low found form in
       let one : made_at layout plan (stage_of next) ≡ made + 1 =
@@ -280,7 +280,7 @@ pub gate_made : (tells : Type 0) (geometry : Geometry) (before found : Found) (b
     → (tells → Opens (layout_of geometry) (plan_of draft (take draft.len buffer)) old.image new.image)
     → (tells → SameOutside (get_or draft.slots 0 0 * geometry.slot_size) 1 old.image new.image)
     → (tells → IsListOf (entry_at geometry.slot_size geometry.slots new.image) geometry.slots found)
-    → HasMade tells geometry buffer old.image new.image found (Write draft Gate replaced) (work_after draft replaced)
+    → HasMade tells (kept_of geometry found buffer) old.image new.image (Write draft Gate replaced) (work_after draft replaced)
 gate_made tells geometry before found buffer draft replaced old new form knows opens same list = by_replaced replaced form.over knows
   where
     layout : Layout
@@ -299,7 +299,7 @@ gate_made tells geometry before found buffer draft replaced old new form knows o
         ∙ sym (at_gate layout draft.id (made_at layout (plan_of draft body) planned.Gate) body (slots_in draft) (is_some o) (records_of layout old.image) counted)
 
     by_replaced : (o : Option SlotOf) → IfSome o (IsWithin geometry.slots geometry.slot_size) → (tells → KnowsDraft geometry before old.image body draft Gate o)
-        → HasMade tells geometry buffer old.image new.image found (Write draft Gate o) (work_after draft o)
+        → HasMade tells (kept_of geometry found buffer) old.image new.image (Write draft Gate o) (work_after draft o)
     by_replaced None within known = record {
       form = tt;
       pending = gate_ends layout draft.id (made_at layout (plan_of draft body) planned.Gate) body (slots_in draft) counted;
@@ -516,7 +516,7 @@ old_copy_list geometry found after draft place old new sized known same mark lis
 
 pub old_copy_made : (tells : Type 0) (geometry : Geometry) (before found : Found) (buffer : List ℕ) (draft : Draft) (place : SlotOf) (old new : Told) → (tells → length old.image ≡ geometry.slot_size * geometry.slots)
     → (tells → KnowsOldCopy geometry before old.image draft place) → (tells → MayChange (place.slot * geometry.slot_size + 1) 1 old new) → (tells → number_at new.image (place.slot * geometry.slot_size + 1) 1 ≡ kill_mark)
-    → EndsOlder geometry before found place → HasMade tells geometry buffer old.image new.image found (OldCopy draft place) Nothing
+    → EndsOlder geometry before found place → HasMade tells (kept_of geometry found buffer) old.image new.image (OldCopy draft place) Nothing
 old_copy_made tells geometry before found buffer draft place old new sized knows may mark lists = record {
   form = tt;
   pending = old_copy_ends (layout_of geometry) draft.id (take draft.len buffer) (slots_in draft);
@@ -605,7 +605,7 @@ cleared_list geometry found after id place old new sized known same mark lists =
 
 pub cleared_made : (tells : Type 0) (geometry : Geometry) (before found : Found) (buffer : List ℕ) (id : ℕ) (place : SlotOf) (old new : Told) → (tells → length old.image ≡ geometry.slot_size * geometry.slots)
     → (tells → KnowsCleared geometry before old.image id place) → (tells → MayChange (place.slot * geometry.slot_size + 1) 1 old new) → (tells → number_at new.image (place.slot * geometry.slot_size + 1) 1 ≡ kill_mark)
-    → EndsRecord geometry before found id → HasMade tells geometry buffer old.image new.image found (Clear id place) Nothing
+    → EndsRecord geometry before found id → HasMade tells (kept_of geometry found buffer) old.image new.image (Clear id place) Nothing
 cleared_made tells geometry before found buffer id place old new sized knows may mark lists = record {
   form = tt;
   pending = refl;

@@ -57,6 +57,15 @@ pub record IsWrite (geometry : Geometry) (found : Found) (body : List ℕ) (draf
   pub takes : TakesFree found draft
   pub over : IfSome replaced (IsWithin geometry.slots geometry.slot_size)
 
+-- what a store keeps beside its flash and what is pending: its geometry, the lists of its slots, and its buffer
+pub record Kept : Type 0 where
+  pub geometry : Geometry
+  pub found : Found
+  pub buffer : List ℕ
+
+abbrev pub kept_of : Geometry → Found → (buffer : List ℕ) → Kept
+kept_of geometry found buffer = record { geometry = geometry; found = found; buffer = buffer }
+
 -- what is pending has its places in a store of this geometry
 abbrev pub IsWork : Geometry → Found → List ℕ → Begun → Type 0
 IsWork geometry found buffer Nothing = Unit {0}
@@ -146,10 +155,11 @@ MayMake geometry pending old new = Leaves old new (λ image.
     ⊎ (records_of (layout_of geometry) image ≡ map_after (layout_of geometry) pending (records_of (layout_of geometry) old.image)))
 
 -- the next change of what was pending was made
-pub record HasMade (tells : Type 0) (geometry : Geometry) (buffer : List ℕ) (old new : List ℕ) (found : Found) (work next : Begun) : Type 0 where
-  pub form : IsWork geometry found buffer next
-  pub pending : pending_of (layout_of geometry) buffer next ≡ pending_after (layout_of geometry) (pending_of (layout_of geometry) buffer work)
-  pub knows : tells → Knows geometry found buffer new next
-  pub made : tells → records_of (layout_of geometry) new
-      ≡ map_after (layout_of geometry) (pending_of (layout_of geometry) buffer work) (records_of (layout_of geometry) old)
-  pub placed : tells → PlacedAfter (layout_of geometry) (pending_of (layout_of geometry) buffer work) new
+pub record HasMade (tells : Type 0) (kept : Kept) (old new : List ℕ) (work next : Begun) : Type 0 where
+  pub form : IsWork kept.geometry kept.found kept.buffer next
+  pub pending : pending_of (layout_of kept.geometry) kept.buffer next
+      ≡ pending_after (layout_of kept.geometry) (pending_of (layout_of kept.geometry) kept.buffer work)
+  pub knows : tells → Knows kept.geometry kept.found kept.buffer new next
+  pub made : tells → records_of (layout_of kept.geometry) new
+      ≡ map_after (layout_of kept.geometry) (pending_of (layout_of kept.geometry) kept.buffer work) (records_of (layout_of kept.geometry) old)
+  pub placed : tells → PlacedAfter (layout_of kept.geometry) (pending_of (layout_of kept.geometry) kept.buffer work) new

@@ -39,15 +39,12 @@ pub record IsOver (geometry : Geometry) (found : Found) (id : ℕ) (replaced : O
   pub within : IfSome replaced (IsWithin geometry.slots geometry.slot_size)
   pub not_last : IfSome replaced (λ place. place.generation ≢ LAST_GENERATION)
 
--- a draft of a record of this identifier and length, in place of another or not: the free slots of least number, with their
--- tail marks
-pub record IsPlanned (tells : Type 0) (geometry : Geometry) (found : Found) (image : List ℕ) (id len : ℕ) (draft : Draft) (replaced : Option SlotOf) : Type 0 where
-  pub over : IsOver geometry found id replaced
-  pub of_id : draft.id ≡ id
-  pub allowed : is_reserved id ≡ false
-  pub id_fits : id < 2 ^ 64
-  pub of_len : draft.len ≡ len
-  pub parts : draft.parts ≡ parts_of (geometry.slot_size - 64) len
+-- a draft of a record, in place of another or not: the free slots of least number, with their tail marks
+pub record IsPlanned (tells : Type 0) (geometry : Geometry) (found : Found) (image : List ℕ) (draft : Draft) (replaced : Option SlotOf) : Type 0 where
+  pub over : IsOver geometry found draft.id replaced
+  pub allowed : is_reserved draft.id ≡ false
+  pub id_fits : draft.id < 2 ^ 64
+  pub parts : draft.parts ≡ parts_of (geometry.slot_size - 64) draft.len
   pub generation : draft.generation ≡ generation_over replaced
   pub generation_fits : draft.generation < 2 ^ 32
   pub enough : slots_needed draft.parts replaced ≤ length found.free.items

@@ -32,8 +32,9 @@ pub fn plan_write<F: Flash>(
     requires listing { IsListing geometry.now.slots geometry.now.slot_size found.now }
     requires least { 128 ≤ len }
     requires reach { len ≤ reach_of (geometry.now.slot_size - 64) }
-    ensures planned { IfOk result (λ plan. IsPlanned F.tells geometry.now found.now (F.state flash.old).told.image id
-        len plan.0 plan.1) }
+    ensures asked { IfOk result (λ plan. (plan.0.id ≡ id) × (plan.0.len ≡ len)) }
+    ensures planned { IfOk result (λ plan. IsPlanned F.tells geometry.now found.now (F.state flash.old).told.image
+        plan.0 plan.1) }
     ensures refused { IfErr result (IsRefusedBy geometry.now found.now id len) }
     ensures reads { ReadsToPlan F.tells (2 * parts_of (geometry.now.slot_size - 64) len) (F.state flash.old)
         (F.state flash.new) result }

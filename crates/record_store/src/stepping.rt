@@ -1,5 +1,5 @@
 // The next change of what is pending, one a call. After it the lists are those of the slots as they are then.
-ghost use Rattle.std.specs.Prelude.{◌≡◌, ℕ, ◌-◌, ◌<◌, ◌≤◌, List, length, take, IfOk};
+ghost use Rattle.std.specs.Prelude.{◌≡◌, ℕ, ◌-◌, ◌<◌, ◌≤◌, List, length, IfOk};
 ghost use Rattle.base_model.specs.Flash.{AsksChange};
 ghost use Rattle.base_model.specs.Layout.{reach_of};
 ghost use Rattle.flash_model.specs.Layouts.{layout_of};
@@ -8,7 +8,7 @@ ghost use Rattle.record_model.specs.Records.{NearlyOnlyFirstUp};
 ghost use Rattle.record_slots.specs.Listed.{IsWithin};
 ghost use Rattle.record_slots.specs.Slots.{Fits};
 ghost use Rattle.record_store.specs.Index.{IsListing};
-ghost use Rattle.record_store.specs.Kept.{IsWork, IsWrite, IsUnderWay, KnowsDraft, KnowsOldCopy, KnowsCleared, Knows, work_after, opened_place};
+ghost use Rattle.record_store.specs.Kept.{IsWork, IsUnderWay, KnowsOldCopy, KnowsCleared, Knows, kept_of, work_after, opened_place};
 ghost use Rattle.record_store.specs.Stepping.{MakesChange, leaving};
 
 use crate::index::{copy_killed, record_cleared, record_opened};
@@ -32,8 +32,8 @@ pub fn make_change<F: Flash>(
     requires under_way { IsUnderWay work.old }
     requires knows { F.tells → Knows geometry.now found.old buffer.now (F.state flash.old).told.image work.old }
     ensures listing { IsListing geometry.now.slots geometry.now.slot_size found.new }
-    ensures makes { MakesChange F.tells geometry.now buffer.now (F.state flash.old)
-        (F.state flash.new) found.new work.old (leaving result work.new) }
+    ensures makes { MakesChange F.tells (kept_of geometry.now found.new buffer.now) (F.state flash.old)
+        (F.state flash.new) work.old (leaving result work.new) }
 {
     match work {
         Begun::Nothing => unreachable!(),
@@ -78,12 +78,12 @@ fn fill_slot<F: Flash>(
 ) -> Result<(), FlashFailed>
     requires fits { Fits geometry.now (F.state flash.old) }
     requires buffer { length buffer.now ≡ reach_of (geometry.now.slot_size - 64) }
-    requires form { IsWrite geometry.now found.now (take draft.now.len buffer.now) draft.now (Stage.Fill number step)
-        replaced }
-    requires knows { F.tells → KnowsDraft geometry.now found.now (F.state flash.old).told.image
-        (take draft.now.len buffer.now) draft.now (Stage.Fill number step) replaced }
-    ensures makes { MakesChange F.tells geometry.now buffer.now (F.state flash.old) (F.state flash.new) found.now
-        (Begun.Write draft.now (Stage.Fill number step) replaced)
+    requires form { IsWork geometry.now found.now buffer.now
+        (Begun.Write draft.now (Stage.Fill number step) replaced) }
+    requires knows { F.tells → Knows geometry.now found.now buffer.now (F.state flash.old).told.image
+        (Begun.Write draft.now (Stage.Fill number step) replaced) }
+    ensures makes { MakesChange F.tells (kept_of geometry.now found.now buffer.now) (F.state flash.old)
+        (F.state flash.new) (Begun.Write draft.now (Stage.Fill number step) replaced)
         (leaving result (Begun.Write draft.now stage.new replaced)) }
 {
     let len = draft.len as usize;
@@ -104,12 +104,12 @@ fn open_slot<F: Flash>(
     requires fits { Fits geometry.now (F.state flash.old) }
     requires listing { IsListing geometry.now.slots geometry.now.slot_size found.old }
     requires buffer { length buffer.now ≡ reach_of (geometry.now.slot_size - 64) }
-    requires form { IsWrite geometry.now found.old (take draft.now.len buffer.now) draft.now Stage.Gate replaced }
-    requires knows { F.tells → KnowsDraft geometry.now found.old (F.state flash.old).told.image
-        (take draft.now.len buffer.now) draft.now Stage.Gate replaced }
+    requires form { IsWork geometry.now found.old buffer.now (Begun.Write draft.now Stage.Gate replaced) }
+    requires knows { F.tells → Knows geometry.now found.old buffer.now (F.state flash.old).told.image
+        (Begun.Write draft.now Stage.Gate replaced) }
     ensures listing { IsListing geometry.now.slots geometry.now.slot_size found.new }
-    ensures makes { MakesChange F.tells geometry.now buffer.now (F.state flash.old) (F.state flash.new) found.new
-        (Begun.Write draft.now Stage.Gate replaced) result }
+    ensures makes { MakesChange F.tells (kept_of geometry.now found.new buffer.now) (F.state flash.old)
+        (F.state flash.new) (Begun.Write draft.now Stage.Gate replaced) result }
 {
     let len = draft.len as usize;
     publish(flash, geometry, draft, &buffer[..len])?;
@@ -158,8 +158,8 @@ fn end_old_copy<F: Flash>(
     requires place { IsWithin geometry.now.slots geometry.now.slot_size place }
     requires knows { F.tells → KnowsOldCopy geometry.now found.old (F.state flash.old).told.image draft.now place }
     ensures listing { IsListing geometry.now.slots geometry.now.slot_size found.new }
-    ensures makes { (buffer : List ℕ) → MakesChange F.tells geometry.now buffer (F.state flash.old)
-        (F.state flash.new) found.new (Begun.OldCopy draft.now place) result }
+    ensures makes { (buffer : List ℕ) → MakesChange F.tells (kept_of geometry.now found.new buffer)
+        (F.state flash.old) (F.state flash.new) (Begun.OldCopy draft.now place) result }
 {
     kill(flash, geometry, place.slot)?;
     copy_killed(found, geometry, place);
@@ -179,8 +179,8 @@ fn end_record<F: Flash>(
     requires place { IsWithin geometry.now.slots geometry.now.slot_size place }
     requires knows { F.tells → KnowsCleared geometry.now found.old (F.state flash.old).told.image id place }
     ensures listing { IsListing geometry.now.slots geometry.now.slot_size found.new }
-    ensures makes { (buffer : List ℕ) → MakesChange F.tells geometry.now buffer (F.state flash.old)
-        (F.state flash.new) found.new (Begun.Clear id place) result }
+    ensures makes { (buffer : List ℕ) → MakesChange F.tells (kept_of geometry.now found.new buffer)
+        (F.state flash.old) (F.state flash.new) (Begun.Clear id place) result }
 {
     kill(flash, geometry, place.slot)?;
     record_cleared(found, geometry, id);

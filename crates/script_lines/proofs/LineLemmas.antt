@@ -2,8 +2,12 @@
 use Rattle.std.proofs.Common.{◌≡◌, ℕ, zero, suc, ◌+◌, ◌-◌, ◌<◌, ◌≤◌, ◌⊎◌, inl, inr, Bool, true, false, cond, List, [], ◌∷◌, ◌++◌, length, take, drop, get_or, refl, sym, ap, subst, ◌∙◌, arith, append_assoc, length-append, length-drop, eqb-true}
 use Rattle.std.proofs.lemmas.List.{take-append-drop, drop-drop, drop-take, length-take}
 use Rattle.std.proofs.Math.Seq.{take-add}
-use Rattle.std.specs.List.{onto_first}
-use Rattle.script_lines.specs.Lines.{IsOneLine, IsFirstLine, Line, is_newline, parts_of, line_before, lines_in, lines_of, ended_lines_of}
+use Rattle.std.specs.List.{onto_first, slice_split}
+use Rattle.script_lines.specs.Lines.{IsOneLine, IsFirstLine, Line, is_newline, line_before, lines_in, lines_of, ended_lines_of}
+
+-- a script cut at its newlines
+abbrev pub parts_of : List ℕ → List (List ℕ)
+parts_of script = slice_split is_newline script
 
 -- a test that doesn't pass
 fails : (b : Bool) → (b ≡ true → ⊥) → b ≡ false

@@ -1,14 +1,23 @@
 -- Laws of lines that were played one after another, and of the end of their script.
 use Rattle.std.proofs.Common.{◌≡◌, ℕ, ◌⊎◌, inl, inr, List, [], ◌∷◌, ◌++◌, refl, sym, subst, ◌∙◌, append_assoc, ◌+◌}
+use Rattle.std.specs.List.{AllZip}
 use Rattle.base_model.specs.Faults.{Rose}
 use Rattle.script_lines.specs.Columns.{BreaksAt}
 use Rattle.script_lines.specs.Causes.{HasSourceCause, HasSinkCause}
-use Rattle.script_lines.specs.Ends.{IsBadFrom, EndsReading, fault_of}
+use Rattle.script_lines.specs.Ends.{EndsReading, fault_of}
 use Rattle.script_lines.specs.Lines.{Line, Reading, lines_of, IsTooLong, IsNextLine}
 use Rattle.script_lines.specs.Reads.{HasRead, StandsAt, AreReadInOrder, last_line}
-use Rattle.script_lines.specs.Played.{IsLineOf, AreInGrammar, ArePlayed, StopsAt, EndsBehind, PlaysByFault}
+use Rattle.script_lines.specs.Played.{IsLineOf, AreInGrammar, StopsAt, EndsBehind, PlaysByFault}
 use Rattle.script_lines.specs.declared.ending.ScriptEnd.{ScriptEnd}
 use Rattle.script_lines.specs.declared.ending.ScriptEnd.TheVariants.{Done, BadLine, SourceFault, SinkFault, TooLong, Memory}
+
+-- the lines were played, each as what its text is read as
+abbrev pub ArePlayed : {P : Type 0} → (List ℕ → P → Type 0) → List Line → List P → Type 0
+ArePlayed Reads lines played = AllZip (λ line one. IsLineOf (λ text. Reads text one) line) lines played
+
+-- a line is none of a grammar, from this column on
+abbrev pub IsBadFrom : (List ℕ → Type 0) → ℕ → Line → Type 0
+IsBadFrom Is column = IsLineOf (λ text. BreaksAt Is text column)
 
 -- one more line
 pub ArePlayed-push : {P : Type 0} (Reads : List ℕ → P → Type 0) (lines : List Line) (line : Line) (some : List P) (one : P) → ArePlayed Reads lines some
@@ -24,7 +33,7 @@ is_line Is tells a b rest rest_now text next same is = record { within = next.wi
 
 pub is_bad : (Is : List ℕ → Type 0) (tells : Type 0) (a b : Reading) (rest rest_now text : List ℕ) (column : ℕ) → IsNextLine tells a b rest rest_now → text ≡ b.line → BreaksAt Is text column
     → IsBadFrom Is column (last_line b)
-is_bad Is tells a b rest rest_now text column next same breaks = record { within = next.within; breaks = subst (λ (t : List ℕ). BreaksAt Is t column) same breaks }
+is_bad Is tells a b rest rest_now text column next same breaks = record { within = next.within; is = subst (λ (t : List ℕ). BreaksAt Is t column) same breaks }
 
 -- it stopped the script
 pub stops_at : (Is : Line → Type 0) (script : List ℕ) (before : List Line) (line : Line) (number at : ℕ) → number ≡ at → StandsAt script before at line → Is line → StopsAt Is script before number
@@ -75,7 +84,7 @@ stopped_in_grammar Is IsThere script before number all stops = in_grammar_at Is 
 
 -- no line that is none stops a script whose lines are all of the grammar, and none that is too long
 pub not_bad : (Is : List ℕ → Type 0) (script : List ℕ) (lines : List Line) (number column : ℕ) → AreInGrammar Is (lines_of 0 script) → StopsAt (IsBadFrom Is column) script lines number → ⊥
-not_bad Is script lines number column all stops = stops.is.breaks.1.outside (stopped_in_grammar Is (IsBadFrom Is column) script lines number all stops).is
+not_bad Is script lines number column all stops = stops.is.is.1.outside (stopped_in_grammar Is (IsBadFrom Is column) script lines number all stops).is
 
 pub not_long : (Is : List ℕ → Type 0) (script : List ℕ) (lines : List Line) (number : ℕ) → AreInGrammar Is (lines_of 0 script) → StopsAt IsTooLong script lines number → ⊥
 not_long Is script lines number all stops = (stopped_in_grammar Is IsTooLong script lines number all stops).within stops.is

@@ -1,8 +1,7 @@
 -- How a script that is read line by line ends.
 use Rattle.std.specs.Prelude.{◌≡◌, ℕ, ◌+◌, List}
-use Rattle.script_lines.specs.Columns.{BreaksAt}
 use Rattle.script_lines.specs.Causes.{Fault, OfSource, OfSink, NoFault}
-use Rattle.script_lines.specs.Lines.{Line, Reading, IsTooLong, IsAtEnd, NextIsTooLong, HasNoLine}
+use Rattle.script_lines.specs.Lines.{Reading, IsAtEnd, NextIsTooLong, HasNoLine}
 use Rattle.script_lines.specs.declared.ending.ScriptEnd.{ScriptEnd}
 use Rattle.script_lines.specs.declared.ending.ScriptEnd.TheVariants.{Done, SourceFault, SinkFault, TooLong}
 
@@ -18,8 +17,3 @@ EndsReading tells old new rest rest_now Done = IsAtEnd tells old new rest rest_n
 EndsReading tells old new rest rest_now SourceFault = HasNoLine tells old new rest rest_now
 EndsReading tells old new rest rest_now (TooLong line) = (line ≡ new.number + 1) × NextIsTooLong tells old new rest
 EndsReading tells old new rest rest_now ending = ⊥
-
--- a line is none of a grammar, from this column on
-pub record IsBadFrom (Is : List ℕ → Type 0) (column : ℕ) (line : Line) : Type 0 where
-  pub within : IsTooLong line → ⊥
-  pub breaks : BreaksAt Is line.text column

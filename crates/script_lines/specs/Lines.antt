@@ -11,11 +11,8 @@ pub record Line : Type 0 where
 abbrev pub is_newline : ℕ → Bool
 is_newline byte = byte == 10
 
--- the script cut at its newlines; what is behind the last newline is a part too
-abbrev pub parts_of : List ℕ → List (List ℕ)
-parts_of script = slice_split is_newline script
-
--- a part that another follows is ended by a newline. The last part is a line where it isn't empty
+-- A script is cut at its newlines; what is behind the last newline is a part too. A part that another follows is ended by a newline. The last part is
+-- a line where it isn't empty
 abbrev pub line_before : ℕ → List ℕ → List (List ℕ) → List Line → List Line
 line_before at [] [] later = []
 line_before at (byte ∷ text) [] later = record { text = byte ∷ text; end = at + length (byte ∷ text) } ∷ []
@@ -27,7 +24,7 @@ lines_in at (part ∷ parts) = line_before at part parts (lines_in (at + length 
 
 -- the lines of a script that begins at a place
 unfoldable pub lines_of : ℕ → List ℕ → List Line
-lines_of at script = lines_in at (parts_of script)
+lines_of at script = lines_in at (slice_split is_newline script)
 
 -- of these, the lines that newlines end
 abbrev pub ended_before : ℕ → List ℕ → List (List ℕ) → List Line → List Line
@@ -39,7 +36,7 @@ ended_in at [] = []
 ended_in at (part ∷ parts) = ended_before at part parts (ended_in (at + length part + 1) parts)
 
 unfoldable pub ended_lines_of : ℕ → List ℕ → List Line
-ended_lines_of at script = ended_in at (parts_of script)
+ended_lines_of at script = ended_in at (slice_split is_newline script)
 
 -- a line's text is longer than the longest, or the line ends past byte 2 ^ 24 of the script
 abbrev pub IsTooLong : Line → Type 0

@@ -4,6 +4,7 @@ ghost use Rattle.ghes_ack.specs.declared.events.Event.TheVariants.{Fill as OfFil
 ghost use Rattle.ghes_ack.specs.declared.ends.FirmwareEnd.TheVariants.{Waits as OfWaits};
 ghost use Rattle.ghes_ack.specs.Machine.{Filling};
 ghost use Rattle.ghes_ack.specs.Queues.{HasRoom};
+ghost use Rattle.ghes_ack.specs.Handovers.{over};
 ghost use Rattle.ghes_ack.specs.Sides.{state_of};
 ghost use Rattle.ghes_ack.specs.OwnTurns.{IsAble, IsCount, FirmwareMakes, FirmwareRuns};
 
@@ -24,7 +25,8 @@ pub fn firmware_run(
     requires some { 0 < length events.old }
     ensures room { HasRoom 0 blocks.new }
     ensures count { IsCount result.1 (length events.old) }
-    ensures runs { FirmwareRuns end blocks.old ram.old (take result.1 events.new) result.0 blocks.new ram.new }
+    ensures runs { FirmwareRuns end (over blocks.old ram.old) (take result.1 events.new) result.0
+        (over blocks.new ram.new) }
 {
     match end {
         FirmwareEnd::Waits(wait) => (look_for_ack(wait, blocks, events, ram), 1),
@@ -54,7 +56,8 @@ pub fn firmware_run(
 /// Looks whether the block was acknowledged.
 fn look_for_ack(wait: MustWait, blocks: &Blocks, events: &mut [Event], ram: &Ram) -> FirmwareEnd
     requires { 0 < length events.old }
-    ensures { FirmwareRuns (OfWaits wait) blocks.now ram.now (take 1 events.new) result blocks.now ram.now }
+    ensures { FirmwareRuns (OfWaits wait) (over blocks.now ram.now) (take 1 events.new) result
+        (over blocks.now ram.now) }
 {
     match wait.poll(&blocks.map, ram) {
         Ok(write) => {

@@ -6,6 +6,7 @@ ghost use Rattle.ghes_ack.specs.declared.ends.ReaderEnd.TheVariants.{Looks as Of
 ghost use Rattle.ghes_ack.specs.Machine.{Reading};
 ghost use Rattle.ghes_ack.specs.Maps.{HasWindows, window};
 ghost use Rattle.ghes_ack.specs.Queues.{HasRoom};
+ghost use Rattle.ghes_ack.specs.Handovers.{over};
 ghost use Rattle.ghes_ack.specs.Sides.{IsFar, state_of};
 ghost use Rattle.ghes_ack.specs.OwnTurns.{IsAble, IsCount, GoesOn, ReaderMakes, ReaderRuns};
 
@@ -29,7 +30,8 @@ pub fn reader_run(
     ensures room { HasRoom 0 blocks.new }
     ensures far { GoesOn end result.0 blocks.new }
     ensures count { IsCount result.1 (length events.old) }
-    ensures runs { ReaderRuns end blocks.old ram.old (take result.1 events.new) result.0 blocks.new ram.new }
+    ensures runs { ReaderRuns end (over blocks.old ram.old) (take result.1 events.new) result.0
+        (over blocks.new ram.new) }
 {
     match end {
         ReaderEnd::Looks(look) => (look_for_block(look, blocks, events, ram), 1),
@@ -47,7 +49,8 @@ fn look_for_block(look: MustLook, blocks: &mut Blocks, events: &mut [Event], ram
     requires able { IsAble blocks.old ram.now }
     requires some { 0 < length events.old }
     ensures room { HasRoom 0 blocks.new }
-    ensures runs { ReaderRuns (OfLooks look) blocks.old ram.now (take 1 events.new) result blocks.new ram.now }
+    ensures runs { ReaderRuns (OfLooks look) (over blocks.old ram.now) (take 1 events.new) result
+        (over blocks.new ram.now) }
 {
     match look.poll(&blocks.map, ram) {
         Ok(read) => {
@@ -75,7 +78,8 @@ fn copy_or_clear(
     ensures room { HasRoom 0 blocks.new }
     ensures far { IsFar result.0 blocks.new }
     ensures count { IsCount result.1 (length events.old) }
-    ensures runs { ReaderRuns (OfReads read) blocks.old ram.old (take result.1 events.new) result.0 blocks.new ram.new }
+    ensures runs { ReaderRuns (OfReads read) (over blocks.old ram.old) (take result.1 events.new) result.0
+        (over blocks.new ram.new) }
 {
     let Some(mut bytes) = blocks.at_work.take() else {
         let end = read.clear(&blocks.map, ram);

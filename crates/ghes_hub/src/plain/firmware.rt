@@ -3,6 +3,7 @@ ghost use Rattle.std.specs.Prelude.{◌<◌};
 ghost use Rattle.ghes_ack.specs.declared.events.Side.TheVariants.{Firmware as OfFirmware};
 ghost use Rattle.ghes_ack.specs.Machine.{Machine, Filling};
 ghost use Rattle.ghes_hub.specs.Plain.{HasPlainWindows, PlainStands};
+ghost use Rattle.ghes_ack.specs.Handovers.{over};
 ghost use Rattle.ghes_hub.specs.PlainSides.{IsSound, Stands, Turns, FindsClear, FirmwareIsAble, FirmwareTurns, firmware_at};
 ghost use Rattle.ghes_ack.specs.Sides.{state_of};
 
@@ -17,7 +18,7 @@ pub fn firmware_turn(
     ram: &mut Ram,
 ) -> (FirmwareEnd, Event)
     requires { FirmwareIsAble end blocks.old ram.old }
-    ensures { FirmwareTurns end blocks.old ram.old result.1 result.0 blocks.new ram.new }
+    ensures { FirmwareTurns end (over blocks.old ram.old) result.1 result.0 (over blocks.new ram.new) }
 {
     match end {
         FirmwareEnd::Writes(write) => fill_or_publish(write, blocks, ram),
@@ -46,8 +47,8 @@ fn fill_or_publish(
     requires stands { Stands (state_of Filling blocks.old) ram.old }
     ensures sound { IsSound (firmware_at result.0) blocks.new }
     ensures turns { (m : Machine) → PlainStands (state_of Filling blocks.old) ram.old m
-        → Turns OfFirmware result.1 (state_of Filling blocks.old) ram.old (state_of (firmware_at result.0) blocks.new)
-        ram.new m }
+        → Turns OfFirmware result.1 (over (state_of Filling blocks.old) ram.old)
+        (over (state_of (firmware_at result.0) blocks.new) ram.new) m }
 {
     let Some(block) = blocks.next() else {
         return (FirmwareEnd::Writes(write), Event::Idle);

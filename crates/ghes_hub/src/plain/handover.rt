@@ -3,7 +3,7 @@ ghost use Rattle.std.specs.Prelude.{◌≡◌, ◌∷◌, ◌++◌, [], length, 
 ghost use Rattle.apei_space.specs.RamState.{RamState};
 ghost use Rattle.ghes_ack.specs.Machine.{Machine, started, submitted};
 ghost use Rattle.ghes_hub.specs.Plain.{HasPlainWindows, PlainStands, plain_window, plain_started, plain_refusal};
-ghost use Rattle.ghes_ack.specs.Handovers.{fresh};
+ghost use Rattle.ghes_ack.specs.Handovers.{fresh, over};
 ghost use Rattle.ghes_hub.specs.PlainSides.{Turns};
 
 use crate::plain::map::PlainMap;
@@ -75,7 +75,7 @@ impl PlainHandover {
     pub fn turn(&mut self, side: Side, ram: &mut Ram) -> Event
         requires { (m : Machine) × PlainStands self.old ram.old m }
         ensures turned { (m : Machine) → PlainStands self.old ram.old m
-            → Turns side result self.old ram.old self.new ram.new m }
+            → Turns side result (over self.old ram.old) (over self.new ram.new) m }
     {
         let Some(ends) = self.ends.take() else {
             unreachable!();

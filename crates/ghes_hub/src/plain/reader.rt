@@ -3,6 +3,7 @@ ghost use Rattle.std.specs.Prelude.{◌≡◌, ◌-◌, ◌*◌, ◌<◌, ◌≤
 ghost use Rattle.base_model.specs.Bytes.{part, put_at};
 ghost use Rattle.ghes_ack.specs.Machine.{Reading};
 ghost use Rattle.ghes_hub.specs.Plain.{HasPlainWindows, plain_window};
+ghost use Rattle.ghes_ack.specs.Handovers.{over};
 ghost use Rattle.ghes_hub.specs.PlainSides.{IsSound, HasFittingWork, FindsBlock, ReaderMakes, ReaderIsAble, ReaderTurns, reader_at};
 ghost use Rattle.ghes_ack.specs.Sides.{state_of};
 
@@ -17,7 +18,7 @@ pub fn reader_turn(
     ram: &mut Ram,
 ) -> (ReaderEnd, Event)
     requires { ReaderIsAble end blocks.old ram.old }
-    ensures { ReaderTurns end blocks.old ram.old result.1 result.0 blocks.new ram.new }
+    ensures { ReaderTurns end (over blocks.old ram.old) result.1 result.0 (over blocks.new ram.new) }
 {
     match end {
         ReaderEnd::Looks(look) => look_for_block(look, blocks, ram),

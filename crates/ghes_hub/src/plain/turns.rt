@@ -1,4 +1,5 @@
 // One turn of either side of a plain handover.
+ghost use Rattle.ghes_ack.specs.Handovers.{over};
 ghost use Rattle.ghes_hub.specs.PlainSides.{SideIsAble, SideTurns};
 
 use crate::plain::firmware::firmware_turn;
@@ -15,7 +16,7 @@ pub fn one_turn(
     ram: &mut Ram,
 ) -> (Ends, Event)
     requires { SideIsAble side ends blocks.old ram.old }
-    ensures { SideTurns side ends blocks.old ram.old result.1 result.0 blocks.new ram.new }
+    ensures { SideTurns side ends (over blocks.old ram.old) result.1 result.0 (over blocks.new ram.new) }
 {
     let Ends { firmware, reader } = ends;
     match side {

@@ -5,7 +5,7 @@ use Rattle.apei_space.specs.RamState.{RamState}
 use Rattle.ghes_ack.specs.declared.events.Side.{Side}
 use Rattle.ghes_ack.specs.declared.events.Event.{Event}
 use Rattle.ghes_ack.specs.Machine.{Machine, turned_times}
-use Rattle.ghes_ack.specs.Handovers.{HandoverState}
+use Rattle.ghes_ack.specs.Handovers.{HandoverState, over}
 use Rattle.ghes_ack.specs.Sides.{Stands, MakesTurns, handover_of}
 use Rattle.ghes_ack.proofs.JoinLemmas.{SideDone}
 use Rattle.ghes_ack.proofs.RunLemmas.{no_turns, turns_then}
@@ -17,7 +17,7 @@ pub loop-done-init : goal.loop-done-init
 loop-done-init c = (omega arith, c.requires.consistent, λ m st. no_turns c.args.side (handover_of c.args.ends c.args.blocks.now) c.args.ram.now m st)
 
 -- it stands for the state of the machine after the turns so far
-stands_then : (side : Side) (events : List Event) (h after : HandoverState) (ram memory : RamState) (m : Machine) → MakesTurns side events h ram after memory m → Stands after memory
+stands_then : (side : Side) (events : List Event) (h after : HandoverState) (ram memory : RamState) (m : Machine) → MakesTurns side events (over h ram) (over after memory) m → Stands after memory
 stands_then side events h after ram memory m turns = (turned_times side (length events) m, turns.turned.stands)
 
 pub run_of-made-requires-clause-able : goal.run_of-made-requires-clause-able
@@ -60,7 +60,7 @@ loop-done-preserved c =
       λ m st.
           let a = c.loop-done.invariant.2 m st in
           let b = done.turns (turned_times side (length (take c.loop-done.done c.loop-done.events)) m) a.turned.stands in
-          subst (λ (es : List Event). MakesTurns side es (handover_of c.args.ends c.args.blocks.now) c.args.ram.now (handover_of c.run_of-made.result.0 c.run_of-made.new.blocks) c.run_of-made.new.ram m)
+          subst (λ (es : List Event). MakesTurns side es (over (handover_of c.args.ends c.args.blocks.now) c.args.ram.now) (over (handover_of c.run_of-made.result.0 c.run_of-made.new.blocks) c.run_of-made.new.ram) m)
           (sym (next_events c.loop-done.events c.run_of-made.new.events rest c.loop-done.done c.run_of-made.result.1 le inside))
           (turns_then side (take c.loop-done.done c.loop-done.events) (take c.run_of-made.result.1 c.run_of-made.new.events) (handover_of c.args.ends c.args.blocks.now) (handover_of c.loop-done.stand c.loop-done.blocks) (handover_of c.run_of-made.result.0 c.run_of-made.new.blocks)
           c.args.ram.now c.loop-done.ram c.run_of-made.new.ram m st a b),
@@ -72,5 +72,5 @@ returns-clause-consistent c = c.loop-done.invariant.1
 pub returns-clause-turns : goal.returns-clause-turns
 returns-clause-turns c =
     let all = c.loop-done-test.false in
-    λ m st. subst (λ (es : List Event). MakesTurns c.args.side es (handover_of c.args.ends c.args.blocks.now) c.args.ram.now (handover_of c.loop-done.stand c.loop-done.blocks) c.loop-done.ram m)
+    λ m st. subst (λ (es : List Event). MakesTurns c.args.side es (over (handover_of c.args.ends c.args.blocks.now) c.args.ram.now) (over (handover_of c.loop-done.stand c.loop-done.blocks) c.loop-done.ram) m)
     (take_all c.loop-done.done c.loop-done.events (omega (arith, all))) (c.loop-done.invariant.2 m st)

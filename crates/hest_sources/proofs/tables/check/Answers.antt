@@ -2,8 +2,7 @@ use Rattle.std.proofs.Common.{◌≡◌, ℕ, Ok, Err, sym, ap, ◌∙◌, arith
 use Rattle.std.proofs.lemmas.Result.{err_from_is_err_and}
 use Rattle.base_model.specs.Bytes.{number_at}
 use Rattle.hest_sources.specs.Walk.{source_count}
-use Rattle.hest_sources.specs.Tables.{counted_wrong}
-use Rattle.hest_sources.proofs.Hests.{refusal_is, right_count, wrong_count}
+use Rattle.hest_sources.proofs.Hests.{counted_wrong, refusal_is, right_count, wrong_count}
 use Rattle.hest_sources.proofs.tables.check.Goals as goal
 
 pub returns-in_err-count-clause-refused : goal.returns-in_err-count-clause-refused

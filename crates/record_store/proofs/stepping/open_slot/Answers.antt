@@ -5,7 +5,7 @@ use Rattle.record_store.specs.Drafts.{plan_of}
 use Rattle.record_slots.specs.declared.found.SlotOf.{SlotOf}
 use Rattle.record_slots.specs.Listed.{IsWithin}
 use Rattle.record_store.specs.Index.{HasOpened, IsEntryOf}
-use Rattle.record_store.specs.Kept.{HasMade, further_in}
+use Rattle.record_store.specs.Kept.{HasMade, kept_of, further_in}
 use Rattle.record_store.specs.declared.work.Begun.{Begun}
 use Rattle.record_store.specs.declared.work.Begun.TheVariants.{Write}
 use Rattle.record_store.specs.declared.draft.Stage.TheVariants.{Gate}
@@ -40,7 +40,7 @@ returns-clause-makes g c =
     let is = c.opened_place-place.ensures.place in
     record {
       made =
-          subst (λ (next : Begun). HasMade g.F.Flash.tells geometry buffer old.image new.image c.record_opened.new.found (Write draft Gate c.args.replaced) next) (sym c.after_gate.ensures)
+          subst (λ (next : Begun). HasMade g.F.Flash.tells (kept_of geometry c.record_opened.new.found buffer) old.image new.image (Write draft Gate c.args.replaced) next) (sym c.after_gate.ensures)
           (gate_made g.F.Flash.tells geometry c.args.found.now c.record_opened.new.found buffer draft c.args.replaced old new c.requires.form c.requires.knows c.in_ok-publish.ensures.opened
           (λ tells. MayChange-same (get_or draft.slots 0 0 * geometry.slot_size) 1 old new (c.publish.ensures.change.told tells))
           (λ tells.

@@ -2,7 +2,7 @@ use Rattle.std.proofs.Common.{◌≡◌, ◌∙◌, ℕ, List, take, refl, sym, 
 use Rattle.std.specs.Vec.{with_items}
 use Rattle.std.proofs.lemmas.List.{with_items_is}
 use Rattle.erst_bridge.specs.declared.events.BridgeEvent.TheVariants.{Line}
-use Rattle.erst_bridge.specs.Bridges.{Off, TurnsReader, state_of, after_reader}
+use Rattle.erst_bridge.specs.Bridges.{Off, station_rules, asker_of, TurnsReader, state_of, after_reader}
 use Rattle.erst_bridge.proofs.TurnLemmas.{holds_none, as_seen, stays_on}
 use Rattle.erst_bridge.proofs.bridge.Bridge.turn.Goals as goal
 
@@ -15,7 +15,9 @@ returns-in_default g c =
     let event = c.turn_reader-event.result in
     let last = g.S.Station.last c.turn_reader-event.new.station in
     let kept : (with_items inside.bytes c.turn_reader-event.new.bytes).items ≡ c.turn_reader-event.new.bytes = with_items_is inside.bytes c.turn_reader-event.new.bytes (omega arith) in
-    let bridges = as_seen g.S.Space.state g.S.Space.allows g.S.Station.reads g.S.Station.last c.args.client.now c.args.budget.now c.args.station.now
+    let rules = station_rules g.S.Space.state g.S.Space.allows g.S.Station.reads g.S.Station.last in
+    let asker = asker_of c.args.client.now c.args.budget.now in
+    let bridges = as_seen rules asker c.args.station.now
     before c.args.self.now (Line event) (after_reader event inside.id last before)
     (state_of c.turn_reader-event.new.stage inside.id (take c.turn_reader-event.new.size (with_items inside.bytes c.turn_reader-event.new.bytes).items)) c.args.budget.now c.turn_reader-event.new.station
     c.self.view_is
@@ -24,7 +26,7 @@ returns-in_default g c =
     (TurnsReader inside.id before event c.turn_reader-event.new.station (holds_none inside.stage inside.id bytes c.in_default.not-Holding on) c.turn_reader-event.ensures.reads) in
     record {
       bridges = bridges;
-      on = stays_on g.S.Space.state g.S.Space.allows g.S.Station.reads g.S.Station.last c.args.client.now c.args.budget.now c.args.station.now _ _ _ _ _ bridges;
+      on = stays_on rules asker c.args.station.now _ _ _ _ _ bridges;
       client = refl;
       cause = tt;
     }

@@ -1,7 +1,7 @@
 use Rattle.std.proofs.Common.{◌≡◌, ℕ, ◌≤◌, true, false, List, [], ◌∷◌, ◌++◌, subst, ap, is_some, ◌+◌, ◌-◌, ◌^◌, length, refl, sym, ◌∙◌, arith, inl, inr}
 use Rattle.std.proofs.lemmas.List.{with_items_is}
-use Rattle.base_model.specs.Bytes.{SameOutside}
-use Rattle.flash_model.specs.Content.{bytes_of, MayReplace}
+use Rattle.base_model.specs.Bytes.{SameOutside, part}
+use Rattle.flash_model.specs.Content.{bytes_of, IsErasedAround, MayReplace}
 use Rattle.flash_model.specs.Journal.{Noted, first_changes}
 use Rattle.flash_model.specs.contracts.sim_flash.SimFlash.{the_view}
 use Rattle.flash_model.specs.declared.tear.Tear.{Tear}
@@ -43,6 +43,13 @@ pub replaced-replaced-requires-clause-may : goal.replaced-replaced-requires-clau
 replaced-replaced-requires-clause-may c =
     let is = part-range c.self.inside.image.items c.deref-2.result.now c.args.at c.len.result (length (bytes_of c.args.content)) c.deref-2.ensures.value c.len.ensures in
     subst (λ (old : List ℕ). MayReplace c.args.content old) (sym is) (rw (← c.self.view_is) at c.requires.may)
+
+pub leave-requires-clause-around : goal.leave-requires-clause-around
+leave-requires-clause-around c =
+    let is = c.replaced-replaced.ensures ∙ part-range c.self.inside.image.items c.deref-2.result.now c.args.at c.len.result (length (bytes_of c.args.content)) c.deref-2.ensures.value c.len.ensures in
+    let kept = subst (λ (old : List ℕ). IsErasedAround c.kept_at-kept.result.at c.kept_at-kept.result.len old) is c.kept_at-kept.ensures in
+    subst (λ (image : List ℕ). IsErasedAround c.kept_at-kept.result.at c.kept_at-kept.result.len (part image c.args.at (length (bytes_of c.args.content))))
+    (sym c.deref_mut.ensures.value) kept
 
 pub returns-then-self-clause-after : goal.returns-then-self-clause-after
 returns-then-self-clause-after c =

@@ -7,13 +7,13 @@ use Rattle.ghes_ack.specs.declared.events.Event.TheVariants.{Idle}
 use Rattle.ghes_ack.specs.Machine.{Machine}
 use Rattle.ghes_ack.specs.Maps.{HasWindows, window, memory_after}
 use Rattle.ghes_ack.specs.Elsewhere.{SameWhere, IsOffBlock}
-use Rattle.ghes_ack.specs.Handovers.{HandoverState, StandsFor}
+use Rattle.ghes_ack.specs.Handovers.{HandoverState, StandsFor, over}
 use Rattle.ghes_ack.specs.Sides.{Turns, MakesTurns}
 use Rattle.ghes_ack.proofs.ElsewhereLemmas.{elsewhere_left}
 use Rattle.ghes_ack.proofs.handover.Handover.turn.Goals as goal
 
 -- what a turn leaves elsewhere
-elsewhere : (side : Side) (event : Event) (old : HandoverState) (ram : RamState) (new : HandoverState) (memory : RamState) (m : Machine) → StandsFor old ram m → Turns side event old ram new memory m → SameWhere (IsOffBlock old.map) ram memory
+elsewhere : (side : Side) (event : Event) (old : HandoverState) (ram : RamState) (new : HandoverState) (memory : RamState) (m : Machine) → StandsFor old ram m → Turns side event (over old ram) (over new memory) m → SameWhere (IsOffBlock old.map) ram memory
 elsewhere side event old ram new memory m st t =
     let after : HasWindows old.map memory = subst (λ (at : HandoverMap). HasWindows at memory) t.map t.turned.stands.windows in
     elsewhere_left old.map event ram memory st.windows after t.memory_is
@@ -23,8 +23,8 @@ here : (first old : HandoverState) (between ram : RamState) (m : Machine) → fi
 here first old between ram m same still st = subst (λ (h : HandoverState). StandsFor h between m) (sym same) (subst (λ (r : RamState). StandsFor old r m) (sym still) st)
 
 -- turns with one place for events are one turn
-one_turn : (side : Side) (events : List Event) (h : HandoverState) (ram : RamState) (after : HandoverState) (memory : RamState) (m : Machine) → length events ≡ 1 → MakesTurns side events h ram after memory m →
-    Turns side (slice_index_or events 0 Idle) h ram after memory m
+one_turn : (side : Side) (events : List Event) (h : HandoverState) (ram : RamState) (after : HandoverState) (memory : RamState) (m : Machine) → length events ≡ 1 → MakesTurns side events (over h ram) (over after memory) m →
+    Turns side (slice_index_or events 0 Idle) (over h ram) (over after memory) m
 one_turn side [] h ram after memory m one t = absurd (omega (arith, one))
 one_turn side (e ∷ []) h ram after memory m one t =
     let (between, is, same) = t.left in
@@ -37,10 +37,10 @@ one_turn side (e ∷ f ∷ es) h ram after memory m one t = absurd (omega (arith
 
 -- one turn after nothing was done
 turned : (side : Side) (events : List Event) (first old : HandoverState) (between ram : RamState) (after : HandoverState) (memory : RamState) (m : Machine) → first ≡ old → between ≡ ram → length events ≡ 1 →
-    ((n : Machine) → StandsFor first between n → MakesTurns side events first between after memory n) → StandsFor old ram m → Turns side (slice_index_or events 0 Idle) old ram after memory m
+    ((n : Machine) → StandsFor first between n → MakesTurns side events (over first between) (over after memory) n) → StandsFor old ram m → Turns side (slice_index_or events 0 Idle) (over old ram) (over after memory) m
 turned side events first old between ram after memory m same still one makes st =
-    subst (λ (h : HandoverState). Turns side (slice_index_or events 0 Idle) h ram after memory m) same
-    (subst (λ (r : RamState). Turns side (slice_index_or events 0 Idle) first r after memory m) still
+    subst (λ (h : HandoverState). Turns side (slice_index_or events 0 Idle) (over h ram) (over after memory) m) same
+    (subst (λ (r : RamState). Turns side (slice_index_or events 0 Idle) (over first r) (over after memory) m) still
     (one_turn side events first between after memory m one (makes m (here first old between ram m same still st))))
 
 pub returns-in-Some-clause-elsewhere : goal.returns-in-Some-clause-elsewhere

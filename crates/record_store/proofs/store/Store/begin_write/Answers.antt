@@ -30,9 +30,11 @@ begun g c =
     let is = c.in-Ok.ensures.planned in
     record {
       is = is;
+      of_id = c.in-Ok.ensures.asked.0;
+      of_len = c.in-Ok.ensures.asked.1;
       least = c.requires.least;
       most = fits g c;
-      front = front_is c.args.bytes.now (drop (length c.args.bytes.now) c.deref_mut.result.now) c.put_front.new.buffer c.in-Ok.draft.len c.put_front.ensures is.of_len;
+      front = front_is c.args.bytes.now (drop (length c.args.bytes.now) c.deref_mut.result.now) c.put_front.new.buffer c.in-Ok.draft.len c.put_front.ensures c.in-Ok.ensures.asked.1;
       at = c.first_stage-stage.ensures.is c.self.inside.geometry;
       form = c.first_stage-stage.ensures.form c.self.inside.geometry;
     }
