@@ -4,7 +4,7 @@ ghost use Rattle.base_model.specs.Layout.{room_of, reach_of};
 ghost use Rattle.erst_entries.specs.declared.actions.Action.{Action};
 ghost use Rattle.erst_entries.specs.declared.actions.Action.TheVariants.{EndOperation, ExecuteOperation, GetRecordIdentifier, GetRecordCount};
 ghost use Rattle.erst_device.specs.DeviceState.{given_up, KnowsCopies};
-ghost use Rattle.erst_device.specs.Actions.{Acts, begun_by, gives_up, told_by};
+ghost use Rattle.erst_device.specs.Actions.{Acts, begun_by, gives_up};
 ghost use Rattle.erst_device.specs.Registers.{seen, is_nothing, Runs};
 
 use crate::device::LOG_RANGE;
@@ -45,27 +45,14 @@ impl Registers {
             Action::CheckBusyStatus => self.go_on(store, range),
             Action::GetRecordIdentifier => self.find_next(store),
             Action::GetRecordCount => self.count(store),
-            action => {
-                if let Some(number) = self.number_told(store, action, range) {
-                    self.value = number;
-                }
+            Action::GetCommandStatus => self.value = self.status.number(),
+            Action::GetErrorLogAddressRange => self.value = LOG_RANGE,
+            Action::GetErrorLogAddressRangeLength => self.value = range.len() as u64,
+            Action::GetErrorLogAddressRangeAttributes => self.value = 0,
+            Action::GetExecuteOperationTimings => {
+                self.value = execution_timings(store.geometry());
             }
         }
-    }
-
-    // The number that an action tells where it does nothing else.
-    fn number_told<F: Flash>(&self, store: &Store<F>, action: Action, range: &[u8]) -> Option<u64>
-        requires { length range.now ≡ reach_of (room_of store.now.layout) }
-        ensures { result ≡ told_by action self.now.status store.now.layout }
-    {
-        Some(match action {
-            Action::GetCommandStatus => self.status.number(),
-            Action::GetErrorLogAddressRange => LOG_RANGE,
-            Action::GetErrorLogAddressRangeLength => range.len() as u64,
-            Action::GetErrorLogAddressRangeAttributes => 0,
-            Action::GetExecuteOperationTimings => execution_timings(store.geometry()),
-            _ => return None,
-        })
     }
 
     // Whether no execution runs.

@@ -1,6 +1,6 @@
 use Rattle.std.proofs.Common.{refl, sym, ◌∙◌}
 use Rattle.erst_entries.specs.declared.actions.Action.TheVariants.{SetRecordOffset, SetRecordIdentifier}
-use Rattle.erst_device.specs.Actions.{SetsOffset, SetsId, Waits, Tells}
+use Rattle.erst_device.specs.Actions.{SetsOffset, SetsId, Waits}
 use Rattle.erst_device.proofs.ActionLemmas.{still_of, still_nothing, runs_of, of_action}
 use Rattle.erst_device.proofs.registers.Registers.act.Goals as goal
 
@@ -15,6 +15,3 @@ returns-then-is_still-2-clause-does g c = of_action g.F.Flash.tells _ _ _ _ c.ar
 
 pub returns-else-is_still-2-clause-does : goal.returns-else-is_still-2-clause-does
 returns-else-is_still-2-clause-does g c = of_action g.F.Flash.tells _ _ _ _ c.args.action SetRecordIdentifier c.in-SetRecordIdentifier.is (Waits SetRecordIdentifier refl (runs_of g.F.Flash.tells c.args.self.now c.args.store.now c.requires.runs (sym c.is_still-in-SetRecordIdentifier.ensures ∙ c.if-is_still-2.false)))
-
-pub returns-in-Some-clause-does : goal.returns-in-Some-clause-does
-returns-in-Some-clause-does g c = Tells c.args.action c.in-Some.number (sym c.number_told.ensures ∙ c.in-Some.is)
