@@ -29,7 +29,7 @@ use Rattle.erst_device.specs.Statuses.{status_of}
 use Rattle.erst_device.specs.StoreCalls.{Stepped, ReadOut, FoundNext, Counted}
 use Rattle.erst_device.specs.DeviceState.{DeviceState, IsStill, IsRunning, Reads, Changes, given_up}
 use Rattle.erst_device.specs.Starts.{Starts, HasLength, FindsNone, Misses, GoesBeyond, Finds, named}
-use Rattle.erst_device.specs.Actions.{Acts, Begins, Ends, Steps, Shows, FindsNext, Counts, begun_by, IsAllowed, found, counted, shown}
+use Rattle.erst_device.specs.Actions.{Acts, Begins, Ends, Steps, Shows, Tells, FindsNext, Counts, begun_by, told_by, IsAllowed, found, counted, shown}
 use Rattle.erst_device.specs.Registers.{reading_of, is_nothing, seen, StandsWithin, IsReading, Runs, started}
 
 -- What runs
@@ -59,6 +59,12 @@ runs_of tells registers store runs some = running_of tells registers registers.r
 -- the action that a code names
 pub of_action : (tells : Type 0) (old new : DeviceState) (range after : List ℕ) (action known : Action) → action ≡ known → Acts tells old range (Some known) new after → Acts tells old range (Some action) new after
 of_action tells old new range after action known is acts = subst (λ (a : Action). Acts tells old range (Some a) new after) (sym is) acts
+
+-- an action that tells a number and does nothing else
+pub tells_number : (tells : Type 0) (old : DeviceState) (range : List ℕ) (action known : Action) (number : ℕ) → action ≡ known → told_by known old.status old.store.layout ≡ Some number
+    → Acts tells old range (Some action) (record old { value = number }) range
+tells_number tells old range action known number is told =
+    of_action tells old (record old { value = number }) range range action known is (Tells known number told)
 
 -- Actions that abandon an execution
 
