@@ -338,7 +338,6 @@ fn lay_block(region: &mut [u8], block: &[u8]) -> Result<u32, FatalError>
 }
 
 /// How many records there are, while nothing is begun. All registers stay.
-#[tactic(auto, using(crate::proofs::CountLemmas::few_records))]
 fn count_records<F: Flash>(device: &mut Device<F>, range: &mut [u8]) -> u32
     requires first { device.old ≡ at_first device.old.store }
     requires ready { IsReady device.old.store }
