@@ -24,5 +24,5 @@ pub data WriteAnswered (bytes : List ℕ) (budget : ℕ) (first : MachineState) 
   IsNoRecord : (error : ClientError) → write_refusal bytes (reach_in first.device) ≡ Some error → WriteAnswered bytes budget first (Err error) budget first
   IsWritten : (result : Result (Unit {0}) ClientError) (left : ℕ) (last : MachineState) → write_refusal bytes (reach_in first.device) ≡ None
       → ChangeCommand (with_range (put_at first.memory.range 0 (marked bytes)) first) last (id_of bytes) (Write (id_of bytes) (marked bytes))
-          write_requests budget result left
+      write_requests budget result left
       → WriteAnswered bytes budget first result left last
