@@ -91,19 +91,20 @@ last_now sector past image range at bytes new within put may place size s last =
 pub follows : (sector : ℕ) (told : Told) (s : ℕ) (kind : Kind) (at : ℕ) (bytes medium : List ℕ) → IsDue sector told s kind at bytes → medium ≡ image_at told s → put_at medium at bytes ≡ image_at told (s + 1)
 follows sector told s kind at bytes medium due is = ap (λ (image : List ℕ). put_at image at bytes) is ∙ sym due.image
 
-image_before : (told : Told) (s : ℕ) (change : Change) → slice_get told.past s ≡ Some change → image_at told s ≡ change.before
+-- the image before a change
+pub image_before : (told : Told) (s : ℕ) (change : Change) → slice_get told.past s ≡ Some change → image_at told s ≡ change.before
 unfolding image_at
-image_before told s change here = rw here refl
+image_before told s change here = ap (λ (o : Option Change). elim o [ None ↦ told.image | Some one ↦ one.before ]) here
 
 pub tears : (sector : ℕ) (told : Told) (s : ℕ) (kind : Kind) (at : ℕ) (bytes medium left : List ℕ) → IsDue sector told s kind at bytes → medium ≡ image_at told s
     → SameOutside at (length bytes) medium left → CrashImage told s left
 tears sector told s kind at bytes medium left due medium_is same =
     let is = change_of_due sector told s kind at bytes due in
     let before : medium ≡ is.0.before = medium_is ∙ image_before told s is.0 is.1 in
-    inr (record {
-      change = is.0;
-      under_way = is.1;
-      torn = subst (λ (n : ℕ). SameOutside is.0.at n is.0.before left) (sym is.3)
+    inr (
+      is.0,
+      is.1,
+      subst (λ (n : ℕ). SameOutside is.0.at n is.0.before left) (sym is.3)
           (subst (λ (place : ℕ). SameOutside place (length bytes) is.0.before left) (sym is.2)
-          (subst (λ (image : List ℕ). SameOutside at (length bytes) image left) before same));
-    })
+          (subst (λ (image : List ℕ). SameOutside at (length bytes) image left) before same)),
+    )

@@ -9,7 +9,7 @@ use Rattle.base_model.proofs.BytesLemmas.{SameOutside-put_at, SameOutside-refl, 
 use Rattle.base_model.specs.Flash.{Change, Told, CrashImage, IsLater, image_at}
 use Rattle.base_model.proofs.CrashLemmas.{image_at-later, image_at-now, past_grows}
 use Rattle.erst_port.specs.declared.due.Kind.{Kind}
-use Rattle.erst_port.proofs.Dues.{follows, tears, change_of_due}
+use Rattle.erst_port.proofs.Dues.{follows, tears, change_of_due, image_before}
 use Rattle.erst_port.specs.PortState.{PortState, flash_of}
 use Rattle.erst_port.specs.Changes.{IsDueOn}
 use Rattle.port_laws.specs.Calls.{Embedded, Call, Writes, Puts, Restarts, MovesTo, Looks, Makes, Happens, IsInStep}
@@ -109,10 +109,6 @@ one_step old (Makes kind at bytes) new happens step =
     }
 
 -- the medium as it is is a crash image
-image_before : (told : Told) (s : ℕ) (change : Change) → slice_get told.past s ≡ Some change → image_at told s ≡ change.before
-unfolding image_at
-image_before told s change here = rw here refl
-
 change_at : {X : Type 0} (xs : List X) (i : ℕ) → i < length xs → (x : X) × (slice_get xs i ≡ Some x)
 change_at [] i within = absurd (omega arith)
 change_at (x ∷ xs) zero within = (x, refl)
@@ -122,11 +118,11 @@ pub as_it_is : (told : Told) (s : ℕ) (image : List ℕ) → s ≤ length told.
 as_it_is told s image behind is = elim (cases_lt s (length told.past)) [
   | inl before ↦
       let here = change_at told.past s before in
-      inr (record {
-        change = here.0;
-        under_way = here.1;
-        torn = subst (λ (i : List ℕ). SameOutside here.0.at here.0.len here.0.before i) (sym (is ∙ image_before told s here.0 here.1)) (SameOutside-refl here.0.at here.0.len here.0.before);
-      })
+      inr (
+        here.0,
+        here.1,
+        subst (λ (i : List ℕ). SameOutside here.0.at here.0.len here.0.before i) (sym (is ∙ image_before told s here.0 here.1)) (SameOutside-refl here.0.at here.0.len here.0.before),
+      )
   | inr last ↦ let e : s ≡ length told.past = omega (arith, last, behind) in inl (e, is ∙ image_at-now told s (omega (arith, e)))
 ]
 
