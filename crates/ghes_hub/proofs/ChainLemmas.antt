@@ -1,12 +1,11 @@
 -- Chains of which one is another than before.
-use Rattle.std.proofs.Common.{◌≡◌, ◌∙◌, ℕ, zero, suc, ◌<◌, ◌≤◌, Bool, true, false, cond, List, [], ◌∷◌, length, length-append, set, map, get_or, remove, Option, Some, slice_get, IfSome, refl, sym, ap, subst, arith}
+use Rattle.std.proofs.Common.{◌≡◌, ◌≢◌, ◌∙◌, ℕ, zero, suc, ◌<◌, ◌≤◌, Bool, true, false, cond, List, [], ◌∷◌, length, length-append, set, map, get_or, remove, Option, Some, slice_get, IfSome, refl, sym, ap, subst, arith}
 use Rattle.std.specs.List.{AllZip}
 use Rattle.std.specs.Option.{option_map}
 use Rattle.std.proofs.lemmas.Option.{slice_get-map, slice_get_read}
 use Rattle.base_model.specs.Bytes.{number_at}
 use Rattle.apei_notify.specs.Telling.{Told, Hearing, IsTold}
 use Rattle.ghes_hub.specs.Chains.{in_order}
-use Rattle.ghes_hub.specs.Hubs.{TellsAt, RemovesAt}
 use Rattle.ghes_hub.proofs.SourceLemmas.{slice_get-same, slice_get-other}
 use Rattle.apei_notify.proofs.ToldLemmas.{told_none}
 
@@ -37,6 +36,11 @@ told_one hearing severity block (x ∷ xs) [] is h = absurd h
 told_one hearing severity block (x ∷ xs) (y ∷ ys) is h =
     ((y, subst (λ (s : ℕ). IsTold hearing s block x y) is h.0, refl), told_one hearing severity block xs ys is h.1)
 
+-- the listeners of chain i, and no others, were told of some blocks
+pub record TellsAt {L : Type 0} (hearing : L → Hearing) (i : ℕ) (blocks : List (List ℕ)) (old new : List (List L)) : Type 0 where
+  pub told : (members : List L) → slice_get old i ≡ Some members → (now : List L) × (slice_get new i ≡ Some now) × Told hearing blocks members now
+  pub others : (j : ℕ) → j ≢ i → slice_get new j ≡ slice_get old j
+
 -- the chain of source i was told of a block
 pub tells_one : {C L : Type 0} (hearing : L → Hearing) (f : C → List L) (xs : List C) (i : ℕ) (x y : C) (severity : ℕ) (block last : List ℕ) (takes : Bool) →
     i < length xs → x ≡ get_or xs i x → takes ≡ true → block ≡ last → severity ≡ number_at block 16 4 → AllZip (IsTold hearing severity block) (f x) (f y) →
@@ -64,6 +68,11 @@ tells_none {L} hearing lists i last takes none =
       told = λ members at. (members, at, subst (λ (bs : List (List ℕ)). Told hearing bs members members) (sym blocks) (told_none hearing members));
       others = λ j other. refl;
     }
+
+-- a listener of chain i, and no other, was dropped
+pub record RemovesAt {L : Type 0} (i at : ℕ) (old new : List (List L)) : Type 0 where
+  pub removed : (members : List L) → slice_get old i ≡ Some members → slice_get new i ≡ Some (remove members at)
+  pub others : (j : ℕ) → j ≢ i → slice_get new j ≡ slice_get old j
 
 pub removes_one : {C L : Type 0} (f : C → List L) (xs : List C) (i at : ℕ) (x y : C) → i < length xs → x ≡ get_or xs i x → f y ≡ remove (f x) at → RemovesAt i at (map f xs) (map f (set xs i y))
 removes_one {C} {L} f xs i at x y within is gone =

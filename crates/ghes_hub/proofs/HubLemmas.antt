@@ -1,5 +1,5 @@
 -- One source of a hub over lists of calls: what stands between its own changes nothing.
-use Rattle.std.proofs.Common.{◌≡◌, ◌≢◌, ◌∙◌, ℕ, ◌≤◌, inl, inr, Bool, true, false, cond, ◌==◌, List, [], ◌∷◌, ◌++◌, length, remove, Some, slice_get, All, refl, sym, ap, subst, arith, length-append}
+use Rattle.std.proofs.Common.{◌≡◌, ◌≢◌, ◌∙◌, ℕ, ◌≤◌, inl, inr, Bool, true, false, cond, ◌==◌, List, [], ◌∷◌, ◌++◌, length, remove, Option, Some, None, slice_get, All, refl, sym, ap, subst, arith, length-append}
 use Rattle.std.proofs.lemmas.Bool.{cases_eq, eq-eqb, ne_eqb}
 use Rattle.std.proofs.lemmas.List.{get_or_at}
 use Rattle.apei_space.specs.RamState.{RamState}
@@ -16,8 +16,8 @@ use Rattle.ghes_hub.specs.declared.source.Source.TheVariants.{Acknowledged, Plai
 use Rattle.ghes_hub.specs.Kinds.{Kind, turned_by}
 use Rattle.ghes_hub.specs.Runs.{after_by, run_by, events_by, takes, told_at, told_by}
 use Rattle.ghes_hub.specs.OneSource.{SourceStands, last_of}
-use Rattle.ghes_hub.specs.SourcesState.{SourcesState, layouts_in, StandsAt, TurnsAt}
-use Rattle.ghes_hub.specs.Hubs.{HubState, last_if, last_in, Call, Submits, Turns, Removes, DoAll, steps_at, events_at, removals_at, left_of, OpenedSource, Serves}
+use Rattle.ghes_hub.specs.SourcesState.{SourcesState, layouts_in, StandsAt}
+use Rattle.ghes_hub.specs.Hubs.{HubState, last_in, Call, Submits, Turns, Removes, DoAll, steps_at, events_at, left_at, OpenedSource, Serves}
 use Rattle.ghes_hub.proofs.KindLemmas.{turned_keeps}
 use Rattle.ghes_hub.proofs.RunLemmas.{blocks_by, taken_by, order_by, told_is, took_fits}
 use Rattle.apei_notify.proofs.ToldLemmas.{told_then, told_none}
@@ -38,19 +38,19 @@ last_is (Acknowledged h) ram m st = st.last
 last_is (Plain h) ram m st = st.agrees.last_is
 
 pub last_at : (kind : Kind) (s : SourcesState) (i : ℕ) (m : Machine) → StandsAt kind s i m → last_in s i ≡ last_taken m
-last_at kind s i m at = ap last_if at.is ∙ last_is at.handover s.ram m at.stands
+last_at kind s i m at = ap (λ (o : Option Source). elim o [ None ↦ [] | Some handover ↦ last_of handover ]) at.is ∙ last_is at.handover s.ram m at.stands
 
 pub state_at : (kind : Kind) (s : SourcesState) (i : ℕ) (m : Machine) → StandsAt kind s i m → IsState (length m.window) m
 state_at kind s i m at = is_state at.handover s.ram m at.stands
 
 -- after some calls, from any state
-record Goes {L : Type 0} (hearing : L → Hearing) (kind : Kind) (j : ℕ) (len : ℕ) (members : List L) (steps : List Step) (events : List Event) (removals : List ℕ) (last : HubState L) (w : Watched) : Type 0 where
+record Goes {L : Type 0} (hearing : L → Hearing) (kind : Kind) (j : ℕ) (len : ℕ) (left : List L) (steps : List Step) (events : List Event) (last : HubState L) (w : Watched) : Type 0 where
   stands : StandsAt kind last.sources j (run_by kind w steps).machine
   events_are : events ≡ events_by kind w steps
   fitting : AreFitting len steps
   now : List L
   members_are : slice_get last.chains j ≡ Some now
-  told : Told hearing (told_by kind w steps) (left_of removals members) now
+  told : Told hearing (told_by kind w steps) left now
 
 by_test : {A : Type 0} (i j : ℕ) (a b : A) (P : A → Type 0) → (i ≡ j → P a) → (i ≢ j → P b) → P (cond (i == j) a b)
 by_test {A} i j a b P same other = elim (cases_eq i j) [
@@ -60,7 +60,7 @@ by_test {A} i j a b P same other = elim (cases_eq i j) [
 
 goes : {L : Type 0} (hearing : L → Hearing) (kind : Kind) (j : ℕ) (len : ℕ) (calls : List Call) (first last : HubState L) (members : List L) (w : Watched) →
     length w.machine.window ≡ len → StandsAt kind first.sources j w.machine → slice_get first.chains j ≡ Some members → DoAll hearing calls first last →
-    Goes hearing kind j len members (steps_at j calls) (events_at j calls) (removals_at j calls) last w
+    Goes hearing kind j len (left_at j calls members) (steps_at j calls) (events_at j calls) last w
 goes {L} hearing kind j len [] first last members w n st is same = record {
   stands = subst (λ (h : HubState L). StandsAt kind h.sources j w.machine) (sym same) st;
   events_are = refl;
@@ -71,7 +71,7 @@ goes {L} hearing kind j len [] first last members w n st is same = record {
 }
 goes {L} hearing kind j len (Submits i block ∷ calls) first last members w n st is (between, does, later) =
     let chain : slice_get between.chains j ≡ Some members = ap (λ (cs : List (List L)). slice_get cs j) does.chains ∙ is in
-    by_test i j (Submit block ∷ steps_at j calls) (steps_at j calls) (λ (steps : List Step). Goes hearing kind j len members steps (events_at j calls) (removals_at j calls) last w)
+    by_test i j (Submit block ∷ steps_at j calls) (steps_at j calls) (λ (steps : List Step). Goes hearing kind j len (left_at j calls members) steps (events_at j calls) last w)
     (λ same.
     let here : StandsAt kind between.sources j (submitted w.machine block) = subst (λ (k : ℕ). StandsAt kind between.sources k (submitted w.machine block)) same (does.submitted kind w.machine (subst (λ (k : ℕ). StandsAt kind first.sources k w.machine) (sym same) st)) in
     let rest = goes hearing kind j len calls between last members (after_by kind w (Submit block)) n here chain later in
@@ -87,44 +87,44 @@ goes {L} hearing kind j len (Submits i block ∷ calls) first last members w n s
     (λ apart. goes hearing kind j len calls between last members w n (does.others kind j w.machine (λ e. apart (sym e)) st) chain later)
 goes {L} hearing kind j len (Turns i side event ∷ calls) first last members w n st is (between, does, later) = elim (cases_eq i j) [
   | inl same ↦
-      let t : TurnsAt kind j side event between.sources w.machine = subst (λ (k : ℕ). TurnsAt kind k side event between.sources w.machine) same (does.turned kind w.machine (subst (λ (k : ℕ). StandsAt kind first.sources k w.machine) (sym same) st)) in
+      let t : (event ≡ (turned_by kind side w.machine).0) × StandsAt kind between.sources j (turned_by kind side w.machine).1 =
+      subst (λ (k : ℕ). (event ≡ (turned_by kind side w.machine).0) × StandsAt kind between.sources k (turned_by kind side w.machine).1) same (does.turned kind w.machine (subst (λ (k : ℕ). StandsAt kind first.sources k w.machine) (sym same) st)) in
       let m : Machine = (turned_by kind side w.machine).1 in
       let v : Watched = after_by kind w (Turn side) in
       let is_m : v.machine ≡ m = watched_machine w (turned_by kind side w.machine).0 m in
-      let here : StandsAt kind between.sources j v.machine = subst (StandsAt kind between.sources j) (sym is_m) t.stands in
+      let here : StandsAt kind between.sources j v.machine = subst (StandsAt kind between.sources j) (sym is_m) t.1 in
       let kept : IsState (length w.machine.window) m = turned_keeps kind (length w.machine.window) side w.machine (state_at kind first.sources j w.machine st) in
       let wide : length v.machine.window ≡ len = ap (λ (x : Machine). length x.window) is_m ∙ kept.window ∙ n in
       let told_blocks : List (List ℕ) = told_at (turned_by kind side w.machine).0 (last_taken m) in
       let blocks_are : told_at event (last_in between.sources i) ≡ told_blocks =
-      ap (λ (k : ℕ). told_at event (last_in between.sources k)) same ∙ ap (told_at event) (last_at kind between.sources j m t.stands) ∙ ap (λ (e : Event). told_at e (last_taken m)) t.event_is in
-      let tell = does.told.told members (ap (slice_get first.chains) same ∙ is) in
+      ap (λ (k : ℕ). told_at event (last_in between.sources k)) same ∙ ap (told_at event) (last_at kind between.sources j m t.1) ∙ ap (λ (e : Event). told_at e (last_taken m)) t.0 in
+      let tell = does.told members (ap (slice_get first.chains) same ∙ is) in
       let chain : slice_get between.chains j ≡ Some tell.0 = ap (slice_get between.chains) (sym same) ∙ tell.1 in
       let told_here : Told hearing told_blocks members tell.0 = subst (λ (bs : List (List ℕ)). Told hearing bs members tell.0) blocks_are tell.2 in
       let rest = goes hearing kind j len calls between last tell.0 v wide here chain later in
       let yes_test : (i == j) ≡ true = eq-eqb i j same in
-      subst (λ (b : Bool). Goes hearing kind j len members (cond b (Turn side ∷ steps_at j calls) (steps_at j calls)) (cond b (event ∷ events_at j calls) (events_at j calls)) (removals_at j calls) last w) (sym yes_test) (record {
+      subst (λ (b : Bool). Goes hearing kind j len (left_at j calls members) (cond b (Turn side ∷ steps_at j calls) (steps_at j calls)) (cond b (event ∷ events_at j calls) (events_at j calls)) last w) (sym yes_test) (record {
         stands = rest.stands;
-        events_are = ap (λ (e : Event). e ∷ events_at j calls) t.event_is ∙ ap (λ (es : List Event). (turned_by kind side w.machine).0 ∷ es) rest.events_are;
+        events_are = ap (λ (e : Event). e ∷ events_at j calls) t.0 ∙ ap (λ (es : List Event). (turned_by kind side w.machine).0 ∷ es) rest.events_are;
         fitting = rest.fitting;
         now = rest.now;
         members_are = rest.members_are;
-        told = told_then hearing told_blocks (told_by kind v (steps_at j calls)) (left_of (removals_at j calls) members) (left_of (removals_at j calls) tell.0) rest.now
-            (Told-left hearing told_blocks (removals_at j calls) members tell.0 told_here) rest.told;
+        told = told_then hearing told_blocks (told_by kind v (steps_at j calls)) (left_at j calls members) (left_at j calls tell.0) rest.now
+            (Told-left hearing told_blocks j calls members tell.0 told_here) rest.told;
       })
   | inr apart ↦
       let no_test : (i == j) ≡ false = ne_eqb i j apart in
-      let chain : slice_get between.chains j ≡ Some members = does.told.others j (λ e. apart (sym e)) ∙ is in
-      subst (λ (b : Bool). Goes hearing kind j len members (cond b (Turn side ∷ steps_at j calls) (steps_at j calls)) (cond b (event ∷ events_at j calls) (events_at j calls)) (removals_at j calls) last w) (sym no_test)
+      let chain : slice_get between.chains j ≡ Some members = does.other_chains j (λ e. apart (sym e)) ∙ is in
+      subst (λ (b : Bool). Goes hearing kind j len (left_at j calls members) (cond b (Turn side ∷ steps_at j calls) (steps_at j calls)) (cond b (event ∷ events_at j calls) (events_at j calls)) last w) (sym no_test)
       (goes hearing kind j len calls between last members w n (does.others kind j w.machine (λ e. apart (sym e)) st) chain later)
 ]
 goes {L} hearing kind j len (Removes i at ∷ calls) first last members w n st is (between, does, later) =
     let here : StandsAt kind between.sources j w.machine = subst (λ (s : SourcesState). StandsAt kind s j w.machine) (sym does.sources) st in
-    by_test i j (at ∷ removals_at j calls) (removals_at j calls) (λ (rs : List ℕ). Goes hearing kind j len members (steps_at j calls) (events_at j calls) rs last w)
+    by_test i j (remove members at) members (λ (left : List L). Goes hearing kind j len (left_at j calls left) (steps_at j calls) (events_at j calls) last w)
     (λ same.
-    let chain : slice_get between.chains j ≡ Some (remove members at) = ap (slice_get between.chains) (sym same) ∙ does.removed.removed members (ap (slice_get first.chains) same ∙ is) in
-    let rest = goes hearing kind j len calls between last (remove members at) w n here chain later in
-    record { stands = rest.stands; events_are = rest.events_are; fitting = rest.fitting; now = rest.now; members_are = rest.members_are; told = rest.told })
-    (λ apart. goes hearing kind j len calls between last members w n here (does.removed.others j (λ e. apart (sym e)) ∙ is) later)
+    let chain : slice_get between.chains j ≡ Some (remove members at) = ap (slice_get between.chains) (sym same) ∙ does.removed members (ap (slice_get first.chains) same ∙ is) in
+    goes hearing kind j len calls between last (remove members at) w n here chain later)
+    (λ apart. goes hearing kind j len calls between last members w n here (does.other_chains j (λ e. apart (sym e)) ∙ is) later)
 
 pub serves : {L : Type 0} (hearing : L → Hearing) (source : OpenedSource L) (calls : List Call) (first last : HubState L) →
     StandsAt source.kind first.sources source.number (started source.window) → slice_get first.chains source.number ≡ Some source.listeners → DoAll hearing calls first last → Serves hearing source calls last
@@ -148,14 +148,14 @@ serves hearing source calls first last st is all =
       order = order_by kind window (steps_at j calls) wide good;
       now = g.now;
       members_are = g.members_are;
-      told = subst (λ (bs : List (List ℕ)). Told hearing bs (left_of (removals_at j calls) members) g.now) told g.told;
+      told = subst (λ (bs : List (List ℕ)). Told hearing bs (left_at j calls members) g.now) told g.told;
     }
 
 -- the block that a source took is as long as a block's head
-pub took_head : (kind : Kind) (side : Side) (event : Event) (i : ℕ) (old new : SourcesState) (m : Machine) → StandsAt kind old i m → TurnsAt kind i side event new m → takes event ≡ true → 20 ≤ length (last_in new i)
+pub took_head : (kind : Kind) (side : Side) (event : Event) (i : ℕ) (old new : SourcesState) (m : Machine) → StandsAt kind old i m → (event ≡ (turned_by kind side m).0) × StandsAt kind new i (turned_by kind side m).1 → takes event ≡ true → 20 ≤ length (last_in new i)
 took_head kind side event i old new m st t took =
-    let head = (took_fits kind (length m.window) side m (state_at kind old i m st) (sym (ap takes t.event_is) ∙ took)).head in
-    let last = ap length (last_at kind new i (turned_by kind side m).1 t.stands) in
+    let head = (took_fits kind (length m.window) side m (state_at kind old i m st) (sym (ap takes t.0) ∙ took)).head in
+    let last = ap length (last_at kind new i (turned_by kind side m).1 t.1) in
     omega (arith, head, last)
 
 -- no call moves a source

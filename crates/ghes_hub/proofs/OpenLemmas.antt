@@ -9,7 +9,7 @@ use Rattle.std.specs.declared.alloc.Global.{Global}
 use Rattle.apei_tables.specs.declared.registers.Place.{Place}
 use Rattle.apei_tables.specs.declared.registers.Place.TheVariants.{Memory, Io}
 use Rattle.apei_space.specs.declared.windows.Window.{Window}
-use Rattle.apei_space.specs.Windows.{EndsBelow}
+use Rattle.apei_space.specs.Windows.{EndsBelow, address_of}
 use Rattle.apei_space.specs.Mapped.{AreDisjoint}
 use Rattle.hest_sources.specs.declared.sources.HestSource.{HestSource}
 use Rattle.ghes_hub.specs.Deals.{dealt_to, item_lists, AreDealt}
@@ -20,7 +20,7 @@ use Rattle.apei_notify.specs.Telling.{Hearing}
 use Rattle.hest_sources.specs.declared.sources.Ghes.{Ghes}
 use Rattle.ghes_hub.specs.Hubs.{HubState, Call, DoAll, Serves}
 use Rattle.ghes_hub.proofs.HubLemmas.{serves}
-use Rattle.ghes_hub.specs.Refusals.{generics, overlap_at, overlaps, is_late, clashes}
+use Rattle.ghes_hub.specs.Refusals.{generics, overlap_at, overlaps, clashes}
 use Rattle.ghes_hub.specs.SourcesState.{SourcesState}
 
 some_at : {X : Type 0} (xs : List X) (i : ℕ) → i < length xs → (x : X) × (slice_get xs i ≡ Some x)
@@ -71,7 +71,7 @@ off_is (o ∷ others) w e =
     let h = neither (overlap_at o.place o.len w.place w.len) (overlaps others w) e in
     (disjoint_is o.place o.len w.place w.len h.0, off_is others w h.1)
 
-ends_is : (p : Place) (n : ℕ) → is_late p n ≡ false → EndsBelow p n
+ends_is : (p : Place) (n : ℕ) → not (nat_lt (address_of p + n) (2 ^ 64)) ≡ false → EndsBelow p n
 ends_is (Memory a) n e = elim (cases_lt (a + n) (2 ^ 64)) [ inl h ↦ h | inr h ↦ absurd (let f : nat_lt (a + n) (2 ^ 64) ≡ false = grind (arith, nat_tests) in let t = sym (ap not f) ∙ e in cc) ]
 ends_is (Io a) n e = elim (cases_lt (a + n) (2 ^ 64)) [ inl h ↦ h | inr h ↦ absurd (let f : nat_lt (a + n) (2 ^ 64) ≡ false = grind (arith, nat_tests) in let t = sym (ap not f) ∙ e in cc) ]
 
@@ -87,8 +87,9 @@ HaveBytes (w ∷ ws) = (0 < w.len) × HaveBytes ws
 pub free_is : (front behind ws : List Window) → HaveBytes ws → clashes front ws ≡ false → ((at : Place) (n : ℕ) → IsOff front at n → IsOff behind at n) → AreFree behind ws
 free_is front behind [] some e more = tt
 free_is front behind (w ∷ ws) some e more =
-    let h = neither (is_late w.place w.len || overlaps front w) (clashes (front ++ w ∷ []) ws) e in
-    let k = neither (is_late w.place w.len) (overlaps front w) h.0 in (
+    let late = not (nat_lt (address_of w.place + w.len) (2 ^ 64)) in
+    let h = neither (late || overlaps front w) (clashes (front ++ w ∷ []) ws) e in
+    let k = neither late (overlaps front w) h.0 in (
       some.0,
       ends_is w.place w.len k.0,
       more w.place w.len (off_is front w k.1),
@@ -99,6 +100,6 @@ free_is front behind (w ∷ ws) some e more =
 pub clashes-append : (front xs ys : List Window) → clashes front xs ≡ false → clashes (front ++ xs) ys ≡ false → clashes front (xs ++ ys) ≡ false
 clashes-append front [] ys e f = subst (λ (ws : List Window). clashes ws ys ≡ false) (append-nil front) f
 clashes-append front (x ∷ xs) ys e f =
-    let h = neither (is_late x.place x.len || overlaps front x) (clashes (front ++ x ∷ []) xs) e in
+    let h = neither (not (nat_lt (address_of x.place + x.len) (2 ^ 64)) || overlaps front x) (clashes (front ++ x ∷ []) xs) e in
     let rest : clashes (front ++ x ∷ []) (xs ++ ys) ≡ false = clashes-append (front ++ x ∷ []) xs ys h.1 (subst (λ (ws : List Window). clashes ws ys ≡ false) (sym (append_assoc front (x ∷ []) xs)) f) in
     ap (λ (b : Bool). b || clashes (front ++ x ∷ []) (xs ++ ys)) h.0 ∙ rest

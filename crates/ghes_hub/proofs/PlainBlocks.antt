@@ -11,7 +11,8 @@ use Rattle.ghes_ack.specs.Machine.{Machine, Filling, Published, Reading, Acknowl
 use Rattle.ghes_hub.specs.declared.plain.map.PlainMap.{PlainMap}
 use Rattle.ghes_ack.specs.declared.window_blocks.Blocks.{Blocks}
 use Rattle.ghes_ack.specs.WindowQueues.{TakesOut, HoldsNone, count_of}
-use Rattle.ghes_hub.specs.Plain.{HasPlainWindows, plain_window, plain_window_of, with_plain_window, PlainState, PlainStands}
+use Rattle.ghes_ack.specs.Windows.{block_bytes, HasAddressed}
+use Rattle.ghes_hub.specs.Plain.{plain_window_of, with_plain_window, PlainState, PlainStands}
 use Rattle.ghes_ack.specs.Handovers.{over}
 use Rattle.ghes_hub.specs.PlainSides.{Turns, Stands, with_next_piece, ReaderMakes, Copies, Takes, Clears}
 use Rattle.ghes_ack.specs.Sides.{state_of, in_work, IsCopiedSoFar}
@@ -19,32 +20,32 @@ use Rattle.ghes_ack.proofs.SideLemmas.{in_hand, none_in_hand}
 use Rattle.ghes_hub.proofs.PlainTurns.{next_fits, fills, publishes, frees, idles, finds}
 
 -- the block in hand is one that the window takes
-pub fits_in_hand : (b t : Blocks PlainMap) (block : Vec ℕ Global) (ram : RamState) → TakesOut plain_window_of b t block → Stands (state_of Filling b) ram → HasPlainWindows b.map ram × Fits b.map.window.len block.items
+pub fits_in_hand : (b t : Blocks PlainMap) (block : Vec ℕ Global) (ram : RamState) → TakesOut plain_window_of b t block → Stands (state_of Filling b) ram → HasAddressed b.map.status b.map.window ram × Fits b.map.window.len block.items
 fits_in_hand b t block ram out (m, st) =
     (st.windows, next_fits (state_of Filling b) ram m block.items (map (λ v. v.items) t.waiting.items) out.held st)
 
 pub fills_hand : (b t : Blocks PlainMap) (block : Vec ℕ Global) (bytes : List ℕ) (ram new : RamState) → TakesOut plain_window_of b t block → bytes ≡ block.items → 64 * t.filled < length block.items →
-    new ≡ with_plain_window t.map ram (with_piece (plain_window t.map ram) bytes t.filled) → (m : Machine) → PlainStands (state_of Filling b) ram m →
+    new ≡ with_plain_window t.map ram (with_piece (block_bytes t.map.window ram) bytes t.filled) → (m : Machine) → PlainStands (state_of Filling b) ram m →
     Turns Firmware Fill (over (state_of Filling b) ram) (over (state_of Filling (record t { at_work = Some block; filled = t.filled + 1 })) new) m
 fills_hand b t block bytes ram new out is more memory m st =
     let h = state_of Filling b in
     let f = out.same.filled in
-    let memory_b : new ≡ with_plain_window b.map ram (with_piece (plain_window b.map ram) block.items b.filled) =
-    memory ∙ ap (λ (x : List ℕ). with_plain_window t.map ram (with_piece (plain_window t.map ram) x t.filled)) is
-    ∙ ap (λ (k : ℕ). with_plain_window t.map ram (with_piece (plain_window t.map ram) block.items k)) f
-    ∙ ap (λ (at : PlainMap). with_plain_window at ram (with_piece (plain_window at ram) block.items b.filled)) out.same.map in
+    let memory_b : new ≡ with_plain_window b.map ram (with_piece (block_bytes b.map.window ram) block.items b.filled) =
+    memory ∙ ap (λ (x : List ℕ). with_plain_window t.map ram (with_piece (block_bytes t.map.window ram) x t.filled)) is
+    ∙ ap (λ (k : ℕ). with_plain_window t.map ram (with_piece (block_bytes t.map.window ram) block.items k)) f
+    ∙ ap (λ (at : PlainMap). with_plain_window at ram (with_piece (block_bytes at.window ram) block.items b.filled)) out.same.map in
     subst (λ (after : PlainState). Turns Firmware Fill (over h ram) (over after new) m) (in_hand b t block Filling (b.filled + 1) (t.filled + 1) out (ap (λ (k : ℕ). k + 1) (sym f)))
     (fills h ram new m block.items (map (λ v. v.items) t.waiting.items) refl out.held (omega (arith, more, f)) memory_b st)
 
 pub publishes_hand : (b t : Blocks PlainMap) (block : Vec ℕ Global) (bytes : List ℕ) (ram new : RamState) → TakesOut plain_window_of b t block → bytes ≡ block.items → length block.items ≤ 64 * t.filled →
-    new ≡ with_plain_window t.map ram (with_status (plain_window t.map ram) (take 4 bytes)) → (m : Machine) → PlainStands (state_of Filling b) ram m →
+    new ≡ with_plain_window t.map ram (with_status (block_bytes t.map.window ram) (take 4 bytes)) → (m : Machine) → PlainStands (state_of Filling b) ram m →
     Turns Firmware Publish (over (state_of Filling b) ram) (over (state_of Published (record t { at_work = Some block; filled = 0 })) new) m
 publishes_hand b t block bytes ram new out is none memory m st =
     let h = state_of Filling b in
     let f = out.same.filled in
-    let memory_b : new ≡ with_plain_window b.map ram (with_status (plain_window b.map ram) (take 4 block.items)) =
-    memory ∙ ap (λ (x : List ℕ). with_plain_window t.map ram (with_status (plain_window t.map ram) (take 4 x))) is
-    ∙ ap (λ (at : PlainMap). with_plain_window at ram (with_status (plain_window at ram) (take 4 block.items))) out.same.map in
+    let memory_b : new ≡ with_plain_window b.map ram (with_status (block_bytes b.map.window ram) (take 4 block.items)) =
+    memory ∙ ap (λ (x : List ℕ). with_plain_window t.map ram (with_status (block_bytes t.map.window ram) (take 4 x))) is
+    ∙ ap (λ (at : PlainMap). with_plain_window at ram (with_status (block_bytes at.window ram) (take 4 block.items))) out.same.map in
     subst (λ (after : PlainState). Turns Firmware Publish (over h ram) (over after new) m) (in_hand b t block Published 0 0 out refl)
     (publishes h ram new m block.items (map (λ v. v.items) t.waiting.items) refl out.held (omega (arith, none, f)) memory_b st)
 
@@ -58,12 +59,12 @@ frees_at b ram none m st =
 
 -- the reader copies
 copied_items : (b : Blocks PlainMap) (block : Vec ℕ Global) (bytes copied : List ℕ) (ram : RamState) → bytes ≡ block.items →
-    copied ≡ put_at bytes (64 * b.copied) (part (plain_window b.map ram) (64 * b.copied) (min 64 (length bytes - 64 * b.copied))) → length copied ≡ block.len →
+    copied ≡ put_at bytes (64 * b.copied) (part (block_bytes b.map.window ram) (64 * b.copied) (min 64 (length bytes - 64 * b.copied))) → length copied ≡ block.len →
     (with_items block copied).items ≡ with_next_piece (state_of Reading b) ram block.items
 copied_items b block bytes copied ram is memory long = with_items_is block copied long ∙ memory ∙ ap (with_next_piece (state_of Reading b) ram) is
 
 pub copies_at : (b : Blocks PlainMap) (block : Vec ℕ Global) (bytes copied : List ℕ) (ram : RamState) → b.at_work ≡ Some block → bytes ≡ block.items → 64 * (b.copied + 1) < length block.items →
-    copied ≡ put_at bytes (64 * b.copied) (part (plain_window b.map ram) (64 * b.copied) (min 64 (length bytes - 64 * b.copied))) → length copied ≡ block.len →
+    copied ≡ put_at bytes (64 * b.copied) (part (block_bytes b.map.window ram) (64 * b.copied) (min 64 (length bytes - 64 * b.copied))) → length copied ≡ block.len →
     ReaderMakes (state_of Reading b) ram Copied (state_of Reading (record b { at_work = Some (with_items block copied); copied = b.copied + 1 })) ram
 copies_at b block bytes copied ram some is more memory long =
     let work : in_work Reading b.at_work b.last ≡ Some block.items = ap (λ (o : Option (Vec ℕ Global)). in_work Reading o b.last) some in
@@ -72,7 +73,7 @@ copies_at b block bytes copied ram some is more memory long =
 
 pub takes_at : (b after : Blocks PlainMap) (block : Vec ℕ Global) (bytes copied : List ℕ) (ram : RamState) → b.at_work ≡ Some block → bytes ≡ block.items →
     64 * b.copied < length block.items → length block.items ≤ 64 * (b.copied + 1) →
-    copied ≡ put_at bytes (64 * b.copied) (part (plain_window b.map ram) (64 * b.copied) (min 64 (length bytes - 64 * b.copied))) → length copied ≡ block.len →
+    copied ≡ put_at bytes (64 * b.copied) (part (block_bytes b.map.window ram) (64 * b.copied) (min 64 (length bytes - 64 * b.copied))) → length copied ≡ block.len →
     after ≡ record b { at_work = None; copied = b.copied + 1; last = with_items block copied; spare = after.spare } → ReaderMakes (state_of Reading b) ram Took (state_of Reading after) ram
 takes_at b after block bytes copied ram some is more all memory long is_after =
     let work : in_work Reading b.at_work b.last ≡ Some block.items = ap (λ (o : Option (Vec ℕ Global)). in_work Reading o b.last) some in
@@ -80,7 +81,7 @@ takes_at b after block bytes copied ram some is more all memory long is_after =
     (ap (state_of Reading) is_after ∙ ap (λ (x : List ℕ). record (state_of Reading b) { at_work = Some x; copied = b.copied + 1; last = x }) (copied_items b block bytes copied ram is memory long)) refl
 
 pub clears_at : (b : Blocks PlainMap) (rest : Option (Vec ℕ Global)) (ram new : RamState) → b.at_work ≡ None → rest ≡ None → IsCopiedSoFar b.copied b.at_work b.last →
-    new ≡ with_plain_window b.map ram (with_status (plain_window b.map ram) (spelled 4 0)) → ReaderMakes (state_of Reading b) ram Clear (state_of Acknowledged (record b { at_work = rest })) new
+    new ≡ with_plain_window b.map ram (with_status (block_bytes b.map.window ram) (spelled 4 0)) → ReaderMakes (state_of Reading b) ram Clear (state_of Acknowledged (record b { at_work = rest })) new
 clears_at b rest ram new none gone far memory =
     let work : in_work Reading b.at_work b.last ≡ Some b.last.items = ap (λ (o : Option (Vec ℕ Global)). in_work Reading o b.last) none in
     let all : length b.last.items ≤ 64 * b.copied = subst (λ (o : Option (Vec ℕ Global)). IsCopiedSoFar b.copied o b.last) none far in

@@ -1,5 +1,5 @@
 -- A turn of one side of a plain handover is the machine's turn, whatever the other side does.
-use Rattle.std.proofs.Common.{◌≡◌, ◌∙◌, ℕ, ◌<◌, ◌≤◌, List, length, inl, inr, Vec, Option, Some, None, IfSome, refl, sym, ap, subst, arith}
+use Rattle.std.proofs.Common.{◌≡◌, ◌∙◌, ℕ, ◌<◌, ◌≤◌, length, inl, inr, Vec, Option, Some, None, IfSome, refl, sym, ap, subst, arith}
 use Rattle.std.specs.declared.alloc.Global.{Global}
 use Rattle.apei_space.specs.RamState.{RamState}
 use Rattle.ghes_ack.specs.declared.events.Side.{Side}
@@ -73,7 +73,7 @@ returned : (write : FirmwareEnd) (reader : ReaderEnd) (b : Blocks PlainMap) (ram
 returned (Writes write) (Looks look) b ram None is none m st = record { apart = tt; turns = frees_at b ram is m st }
 returned (Waits wait) (Looks look) b ram None is none m st = record { apart = tt; turns = frees_at b ram is m st }
 returned write (Looks look) b ram (Some block) is none m st = absurd (let some = held_status (state_of Published b) ram m (inl refl) st in omega (arith, some, none))
-returned write (Acknowledges end) b ram work is none m st = absurd st.occurs
+returned write (Acknowledges end) b ram work is none m st = absurd (st.occurs refl)
 returned write (Reads read) b ram work is none m st = absurd (let some = held_status (state_of Reading b) ram m (inr refl) st in omega (arith, some, none))
 
 -- a published block is at work

@@ -1,5 +1,5 @@
 -- Each turn of a plain handover is the machine's turn.
-use Rattle.std.proofs.Common.{◌≡◌, ◌∙◌, ℕ, ◌+◌, ◌-◌, ◌*◌, ◌<◌, ◌≤◌, ◌⊎◌, min, List, [], ◌∷◌, ◌++◌, length, take, Option, Some, None, option_to_list, refl, sym, ap, subst, arith}
+use Rattle.std.proofs.Common.{◌≡◌, ◌≢◌, ◌∙◌, ℕ, ◌+◌, ◌-◌, ◌*◌, ◌<◌, ◌≤◌, ◌⊎◌, min, List, [], ◌∷◌, ◌++◌, length, take, Option, Some, None, option_to_list, refl, sym, ap, subst, arith}
 use Rattle.std.proofs.lemmas.List.{length-take}
 use Rattle.base_model.specs.Bytes.{part, spelled, put_at}
 use Rattle.base_model.proofs.BytesLemmas.{length-spelled}
@@ -14,8 +14,9 @@ use Rattle.ghes_ack.proofs.MachineTurns as machine
 use Rattle.ghes_ack.specs.Kept.{Kept, Agrees, kept_over}
 use Rattle.ghes_ack.proofs.MachineTurns.{Next}
 use Rattle.ghes_hub.specs.declared.plain.map.PlainMap.{PlainMap}
-use Rattle.ghes_hub.specs.Kinds.{ByStatus, settled, plainly, turned_by, Occurs}
-use Rattle.ghes_hub.specs.Plain.{HasPlainWindows, plain_window, plain_status, plain_address, with_plain_window, PlainState, PlainStands}
+use Rattle.ghes_hub.specs.Kinds.{ByStatus, settled, turned_by}
+use Rattle.ghes_ack.specs.Windows.{block_bytes, address_at, HasAddressed}
+use Rattle.ghes_hub.specs.Plain.{plain_status, with_plain_window, PlainState, PlainStands}
 use Rattle.ghes_ack.specs.Handovers.{kept, over}
 use Rattle.ghes_hub.specs.PlainSides.{Turns, Stands, with_next_piece, ReaderMakes, Copies, Takes, Clears}
 use Rattle.ghes_ack.proofs.AddressLemmas.{length-window, window-with_window, address-with_window}
@@ -26,17 +27,17 @@ abbrev pub kept_with : PlainState → List ℕ → Kept
 kept_with h bytes = kept_over h.map.window.len h bytes
 
 abbrev pub kept_now : PlainState → RamState → Kept
-kept_now h ram = kept_with h (plain_window h.map ram)
+kept_now h ram = kept_with h (block_bytes h.map.window ram)
 
-pub stands_by : (h : PlainState) (ram : RamState) (bytes : List ℕ) (m : Machine) → Agrees (kept_with h bytes) m → bytes ≡ plain_window h.map ram → HasPlainWindows h.map ram → plain_address h.map ram ≡ h.map.window.block → Occurs ByStatus h.situation → PlainStands h ram m
+pub stands_by : (h : PlainState) (ram : RamState) (bytes : List ℕ) (m : Machine) → Agrees (kept_with h bytes) m → bytes ≡ block_bytes h.map.window ram → HasAddressed h.map.status h.map.window ram → address_at h.map.status ram ≡ h.map.window.block → h.situation ≢ Cleared → PlainStands h ram m
 stands_by h ram bytes m a seen windows address occurs = record { agrees = subst (λ (x : List ℕ). Agrees (kept_with h x) m) seen a; windows = windows; address = address; occurs = occurs }
 
 -- a machine in one of the four situations is settled
-settled_none : (n : Machine) (s : Situation) → Occurs ByStatus s → settled n s ≡ n
+settled_none : (n : Machine) (s : Situation) → s ≢ Cleared → settled n s ≡ n
 settled_none n Filling o = refl
 settled_none n Published o = refl
 settled_none n Reading o = refl
-settled_none n Cleared o = absurd o
+settled_none n Cleared o = absurd (o refl)
 settled_none n Acknowledged o = refl
 
 -- a machine that is not makes the reader's turn at once
@@ -44,8 +45,8 @@ settles : (n : Machine) → n.situation ≡ Cleared → settled n n.situation �
 settles n is = ap (settled n) is ∙ sym (ap (λ (s : Situation). (reader_turn n s).1) is)
 
 -- a turn that the machine makes so: what it keeps then, and what the memory is
-made : (side : Side) (event : Event) (h after : PlainState) (ram memory : RamState) (bytes : List ℕ) (m n : Machine) → turned_by ByStatus side m ≡ (event, n) → Agrees (kept_with after bytes) n → Occurs ByStatus after.situation → bytes ≡ plain_window after.map memory →
-    after.map ≡ h.map → memory ≡ with_plain_window h.map ram (plain_window h.map memory) → HasPlainWindows after.map memory → plain_address after.map memory ≡ after.map.window.block → Turns side event (over h ram) (over after memory) m
+made : (side : Side) (event : Event) (h after : PlainState) (ram memory : RamState) (bytes : List ℕ) (m n : Machine) → turned_by ByStatus side m ≡ (event, n) → Agrees (kept_with after bytes) n → after.situation ≢ Cleared → bytes ≡ block_bytes after.map.window memory →
+    after.map ≡ h.map → memory ≡ with_plain_window h.map ram (block_bytes h.map.window memory) → HasAddressed after.map.status after.map.window memory → address_at after.map.status memory ≡ after.map.window.block → Turns side event (over h ram) (over after memory) m
 made side event h after ram memory bytes m n is a occurs seen same memory_is windows address = record {
   event_is = sym (ap (λ (t : Turned). t.0) is);
   stands = subst (PlainStands after memory) (sym (ap (λ (t : Turned). t.1) is)) (stands_by after memory bytes n a seen windows address occurs);
@@ -53,31 +54,31 @@ made side event h after ram memory bytes m n is a occurs seen same memory_is win
   memory_is = memory_is;
 }
 
-settled_next : (side : Side) (event : Event) (k : Kept) (m : Machine) (next : Next side event k m) → Occurs ByStatus k.situation → turned_by ByStatus side m ≡ (event, next.machine)
+settled_next : (side : Side) (event : Event) (k : Kept) (m : Machine) (next : Next side event k m) → k.situation ≢ Cleared → turned_by ByStatus side m ≡ (event, next.machine)
 settled_next side event k m next occurs =
-    ap plainly next.is ∙ ap (λ (n : Machine). (event, n)) (settled_none next.machine next.machine.situation (subst (Occurs ByStatus) (sym next.agrees.situation_is) occurs))
+    ap (λ (t : Turned). (t.0, settled t.1 t.1.situation)) next.is ∙ ap (λ (n : Machine). (event, n)) (settled_none next.machine next.machine.situation (subst (λ (s : Situation). s ≢ Cleared) (sym next.agrees.situation_is) occurs))
 
 -- a turn that leaves the memory
-stays : (side : Side) (event : Event) (h after : PlainState) (ram : RamState) (m : Machine) → Next side event (kept_with after (plain_window after.map ram)) m → Occurs ByStatus after.situation → after.map ≡ h.map → PlainStands h ram m →
-    HasPlainWindows after.map ram → plain_address after.map ram ≡ after.map.window.block → Turns side event (over h ram) (over after ram) m
+stays : (side : Side) (event : Event) (h after : PlainState) (ram : RamState) (m : Machine) → Next side event (kept_with after (block_bytes after.map.window ram)) m → after.situation ≢ Cleared → after.map ≡ h.map → PlainStands h ram m →
+    HasAddressed after.map.status after.map.window ram → address_at after.map.status ram ≡ after.map.window.block → Turns side event (over h ram) (over after ram) m
 stays side event h after ram m next occurs same st windows address =
-    made side event h after ram ram (plain_window after.map ram) m next.machine (settled_next side event (kept_with after (plain_window after.map ram)) m next occurs) next.agrees occurs refl same (unchanged h.map ram st.windows) windows address
+    made side event h after ram ram (block_bytes after.map.window ram) m next.machine (settled_next side event (kept_with after (block_bytes after.map.window ram)) m next occurs) next.agrees occurs refl same (unchanged h.map ram st.windows) windows address
 
 -- a turn that writes the window and nothing else
-pub written : (map : PlainMap) (ram new : RamState) (bytes : List ℕ) → HasPlainWindows map ram → length bytes ≡ map.window.len → new ≡ with_plain_window map ram bytes → plain_window map new ≡ bytes
-written map ram new bytes w n is = ap (plain_window map) is ∙ window-with_window map.status map.window ram bytes w n
+pub written : (map : PlainMap) (ram new : RamState) (bytes : List ℕ) → HasAddressed map.status map.window ram → length bytes ≡ map.window.len → new ≡ with_plain_window map ram bytes → block_bytes map.window new ≡ bytes
+written map ram new bytes w n is = ap (block_bytes map.window) is ∙ window-with_window map.status map.window ram bytes w n
 
-pub written_only : (map : PlainMap) (ram new : RamState) (bytes : List ℕ) → HasPlainWindows map ram → length bytes ≡ map.window.len → new ≡ with_plain_window map ram bytes → new ≡ with_plain_window map ram (plain_window map new)
+pub written_only : (map : PlainMap) (ram new : RamState) (bytes : List ℕ) → HasAddressed map.status map.window ram → length bytes ≡ map.window.len → new ≡ with_plain_window map ram bytes → new ≡ with_plain_window map ram (block_bytes map.window new)
 written_only map ram new bytes w n is = is ∙ ap (with_plain_window map ram) (sym (written map ram new bytes w n is))
 
-writes : (side : Side) (event : Event) (h after : PlainState) (ram new : RamState) (bytes : List ℕ) (m n : Machine) → turned_by ByStatus side m ≡ (event, n) → Agrees (kept_with after bytes) n → Occurs ByStatus after.situation → after.map ≡ h.map →
+writes : (side : Side) (event : Event) (h after : PlainState) (ram new : RamState) (bytes : List ℕ) (m n : Machine) → turned_by ByStatus side m ≡ (event, n) → Agrees (kept_with after bytes) n → after.situation ≢ Cleared → after.map ≡ h.map →
     length bytes ≡ h.map.window.len → new ≡ with_plain_window h.map ram bytes → PlainStands h ram m → Turns side event (over h ram) (over after new) m
 writes side event h after ram new bytes m n is a occurs same wide memory st =
     let windows = windows_window h.map ram new bytes memory wide st.windows in
-    let address : plain_address h.map new ≡ h.map.window.block = ap (plain_address h.map) memory ∙ address-with_window h.map.status h.map.window ram bytes st.windows wide ∙ st.address in
-    let seen : bytes ≡ plain_window h.map new = sym (written h.map ram new bytes st.windows wide memory) in
-    made side event h after ram new bytes m n is a occurs (subst (λ (at : PlainMap). bytes ≡ plain_window at new) (sym same) seen) same (written_only h.map ram new bytes st.windows wide memory)
-    (subst (λ (at : PlainMap). HasPlainWindows at new) (sym same) windows) (subst (λ (at : PlainMap). plain_address at new ≡ at.window.block) (sym same) address)
+    let address : address_at h.map.status new ≡ h.map.window.block = ap (address_at h.map.status) memory ∙ address-with_window h.map.status h.map.window ram bytes st.windows wide ∙ st.address in
+    let seen : bytes ≡ block_bytes h.map.window new = sym (written h.map ram new bytes st.windows wide memory) in
+    made side event h after ram new bytes m n is a occurs (subst (λ (at : PlainMap). bytes ≡ block_bytes at.window new) (sym same) seen) same (written_only h.map ram new bytes st.windows wide memory)
+    (subst (λ (at : PlainMap). HasAddressed at.status at.window new) (sym same) windows) (subst (λ (at : PlainMap). address_at at.status new ≡ at.window.block) (sym same) address)
 
 -- the firmware's block fits into the window
 pub next_fits : (h : PlainState) (ram : RamState) (m : Machine) (block : List ℕ) (rest : List (List ℕ)) → kept h ≡ block ∷ rest → PlainStands h ram m → Fits h.map.window.len block
@@ -87,33 +88,33 @@ pub idles : (h : PlainState) (ram : RamState) (m : Machine) → h.situation ≡ 
 idles h ram m now none st = stays Firmware Idle h h ram m (machine.idles (kept_now h ram) m now none st.agrees) st.occurs refl st st.windows st.address
 
 pub fills : (h : PlainState) (ram new : RamState) (m : Machine) (block : List ℕ) (rest : List (List ℕ)) → h.situation ≡ Filling → kept h ≡ block ∷ rest → 64 * h.filled < length block →
-    new ≡ with_plain_window h.map ram (with_piece (plain_window h.map ram) block h.filled) → PlainStands h ram m →
+    new ≡ with_plain_window h.map ram (with_piece (block_bytes h.map.window ram) block h.filled) → PlainStands h ram m →
     Turns Firmware Fill (over h ram) (over (record h { waiting = rest; at_work = Some block; filled = h.filled + 1 }) new) m
 fills h ram new m block rest now held more memory st =
     let fits = (next_fits h ram m block rest held st).fits in
     let n = length-window h.map.status h.map.window ram st.windows in
-    let wide : length (with_piece (plain_window h.map ram) block h.filled) ≡ h.map.window.len = length-with_piece (plain_window h.map ram) block h.filled (omega (arith, fits, n)) (omega (arith, more)) ∙ n in
+    let wide : length (with_piece (block_bytes h.map.window ram) block h.filled) ≡ h.map.window.len = length-with_piece (block_bytes h.map.window ram) block h.filled (omega (arith, fits, n)) (omega (arith, more)) ∙ n in
     let next = machine.fills (kept_now h ram) m block rest now held more st.agrees in
-    writes Firmware Fill h (record h { waiting = rest; at_work = Some block; filled = h.filled + 1 }) ram new (with_piece (plain_window h.map ram) block h.filled) m next.machine
-    (settled_next Firmware Fill (kept_with (record h { waiting = rest; at_work = Some block; filled = h.filled + 1 }) (with_piece (plain_window h.map ram) block h.filled)) m next st.occurs) next.agrees st.occurs refl wide memory st
+    writes Firmware Fill h (record h { waiting = rest; at_work = Some block; filled = h.filled + 1 }) ram new (with_piece (block_bytes h.map.window ram) block h.filled) m next.machine
+    (settled_next Firmware Fill (kept_with (record h { waiting = rest; at_work = Some block; filled = h.filled + 1 }) (with_piece (block_bytes h.map.window ram) block h.filled)) m next st.occurs) next.agrees st.occurs refl wide memory st
 
 -- a block all of whose pieces are filled is published
 pub publishes : (h : PlainState) (ram new : RamState) (m : Machine) (block : List ℕ) (rest : List (List ℕ)) → h.situation ≡ Filling → kept h ≡ block ∷ rest → length block ≤ 64 * h.filled →
-    new ≡ with_plain_window h.map ram (with_status (plain_window h.map ram) (take 4 block)) → PlainStands h ram m →
+    new ≡ with_plain_window h.map ram (with_status (block_bytes h.map.window ram) (take 4 block)) → PlainStands h ram m →
     Turns Firmware Publish (over h ram) (over (record h { waiting = rest; at_work = Some block; filled = 0; situation = Published }) new) m
 publishes h ram new m block rest now held none memory st =
     let head = (next_fits h ram m block rest held st).head in
     let four : length (take 4 block) ≡ 4 = length-take 4 block ∙ omega (arith, head) in
     let wide = length-plain_status h.map ram (take 4 block) four st.windows in
     let next = machine.publishes (kept_now h ram) m block rest now held none st.agrees in
-    writes Firmware Publish h (record h { waiting = rest; at_work = Some block; filled = 0; situation = Published }) ram new (with_status (plain_window h.map ram) (take 4 block)) m next.machine
-    (settled_next Firmware Publish (kept_with (record h { waiting = rest; at_work = Some block; filled = 0; situation = Published }) (with_status (plain_window h.map ram) (take 4 block))) m next tt) next.agrees tt refl wide memory st
+    writes Firmware Publish h (record h { waiting = rest; at_work = Some block; filled = 0; situation = Published }) ram new (with_status (block_bytes h.map.window ram) (take 4 block)) m next.machine
+    (settled_next Firmware Publish (kept_with (record h { waiting = rest; at_work = Some block; filled = 0; situation = Published }) (with_status (block_bytes h.map.window ram) (take 4 block))) m next (λ e. cc e)) next.agrees (λ e. cc e) refl wide memory st
 
 pub waits : (h : PlainState) (ram : RamState) (m : Machine) → (h.situation ≡ Published) ⊎ ((h.situation ≡ Reading) ⊎ (h.situation ≡ Cleared)) → PlainStands h ram m → Turns Firmware Wait (over h ram) (over h ram) m
 waits h ram m held st = stays Firmware Wait h h ram m (machine.waits (kept_now h ram) m held st.agrees) st.occurs refl st st.windows st.address
 
 pub frees : (h : PlainState) (ram : RamState) (m : Machine) → h.situation ≡ Acknowledged → PlainStands h ram m → Turns Firmware Free (over h ram) (over (record h { situation = Filling }) ram) m
-frees h ram m now st = stays Firmware Free h (record h { situation = Filling }) ram m (machine.frees (kept_now h ram) m now st.agrees) tt refl st st.windows st.address
+frees h ram m now st = stays Firmware Free h (record h { situation = Filling }) ram m (machine.frees (kept_now h ram) m now st.agrees) (λ e. cc e) refl st st.windows st.address
 
 pub no_status : (h : PlainState) (ram : RamState) (m : Machine) → (h.situation ≡ Filling) ⊎ (h.situation ≡ Acknowledged) → PlainStands h ram m → plain_status h.map ram ≡ 0
 no_status h ram m now st = machine.no_status (kept_now h ram) m now st.agrees
@@ -126,7 +127,7 @@ pub finds_nothing : (h : PlainState) (ram : RamState) (m : Machine) → (h.situa
 finds_nothing h ram m now st = stays Reader Nothing h h ram m (machine.finds_nothing (kept_now h ram) m now st.agrees) st.occurs refl st st.windows st.address
 
 pub finds : (h : PlainState) (ram : RamState) (m : Machine) → h.situation ≡ Published → PlainStands h ram m → Turns Reader Found (over h ram) (over (record h { situation = Reading; copied = 0 }) ram) m
-finds h ram m now st = stays Reader Found h (record h { situation = Reading; copied = 0 }) ram m (machine.finds (kept_now h ram) m now st.agrees) tt refl st st.windows st.address
+finds h ram m now st = stays Reader Found h (record h { situation = Reading; copied = 0 }) ram m (machine.finds (kept_now h ram) m now st.agrees) (λ e. cc e) refl st st.windows st.address
 
 -- the block that is published and not acknowledged
 held_work : (h : PlainState) (block : List ℕ) → h.at_work ≡ Some block → kept h ≡ block ∷ h.waiting
@@ -137,7 +138,7 @@ work_fits h ram m block is st = next_fits h ram m block h.waiting (held_work h b
 
 -- a copy of bytes goes over the same bytes
 pub copies_over : (h : PlainState) (ram : RamState) (block : List ℕ) (at n : ℕ) → h.situation ≡ Reading → h.at_work ≡ Some block → 64 * h.copied < length block → at + n ≤ length block → Stands h ram →
-    put_at block at (part (plain_window h.map ram) at n) ≡ block
+    put_at block at (part (block_bytes h.map.window ram) at n) ≡ block
 copies_over h ram block at n now is more inside (m, st) = machine.copies_over (kept_now h ram) m block h.waiting at n now (held_work h block is) more inside st.agrees
 
 pub copies_more : (h : PlainState) (ram : RamState) (m : Machine) (block : List ℕ) → h.situation ≡ Reading → h.at_work ≡ Some block → 64 * (h.copied + 1) < length block → PlainStands h ram m →
@@ -152,16 +153,16 @@ copies_last h ram m block now is more all st =
 
 -- the clearing is the acknowledgement
 pub clears : (h : PlainState) (ram new : RamState) (m : Machine) (block : List ℕ) → h.situation ≡ Reading → h.at_work ≡ Some block → length block ≤ 64 * h.copied →
-    new ≡ with_plain_window h.map ram (with_status (plain_window h.map ram) (spelled 4 0)) → PlainStands h ram m → Turns Reader Clear (over h ram) (over (record h { situation = Acknowledged; at_work = None }) new) m
+    new ≡ with_plain_window h.map ram (with_status (block_bytes h.map.window ram) (spelled 4 0)) → PlainStands h ram m → Turns Reader Clear (over h ram) (over (record h { situation = Acknowledged; at_work = None }) new) m
 clears h ram new m block now is all memory st =
     let wide = length-plain_status h.map ram (spelled 4 0) (length-spelled 4 0) st.windows in
     let held = held_work h block is in
     let cleared = machine.clears (kept_now h ram) m block h.waiting now held all st.agrees in
-    let k : Kept = record (kept_now h ram) { situation = Cleared; bytes = with_status (plain_window h.map ram) (spelled 4 0) } in
+    let k : Kept = record (kept_now h ram) { situation = Cleared; bytes = with_status (block_bytes h.map.window ram) (spelled 4 0) } in
     let done = machine.acknowledges k cleared.machine block h.waiting refl held cleared.agrees in
     let both : turned_by ByStatus Reader m ≡ (Clear, done.machine) =
-    ap plainly cleared.is ∙ ap (λ (n : Machine). (Clear, n)) (settles cleared.machine cleared.agrees.situation_is ∙ ap (λ (t : Turned). t.1) done.is) in
-    writes Reader Clear h (record h { situation = Acknowledged; at_work = None }) ram new (with_status (plain_window h.map ram) (spelled 4 0)) m done.machine both done.agrees tt refl wide memory st
+    ap (λ (t : Turned). (t.0, settled t.1 t.1.situation)) cleared.is ∙ ap (λ (n : Machine). (Clear, n)) (settles cleared.machine cleared.agrees.situation_is ∙ ap (λ (t : Turned). t.1) done.is) in
+    writes Reader Clear h (record h { situation = Acknowledged; at_work = None }) ram new (with_status (block_bytes h.map.window ram) (spelled 4 0)) m done.machine both done.agrees (λ e. cc e) refl wide memory st
 
 -- what a reader makes that may read is the machine's turn: the window's piece is the block's own
 made_as : (event other : Event) (h after next : PlainState) (ram memory left : RamState) (m : Machine) → event ≡ other → after ≡ next → memory ≡ left → Turns Reader other (over h ram) (over next left) m → Turns Reader event (over h ram) (over after memory) m

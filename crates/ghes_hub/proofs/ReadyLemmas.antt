@@ -15,7 +15,7 @@ use Rattle.ghes_hub.specs.declared.plain.map.PlainMap.{PlainMap}
 use Rattle.ghes_hub.specs.Joins.{AreFree}
 use Rattle.ghes_hub.specs.Layouts.{layout_windows}
 use Rattle.ghes_hub.specs.Places.{IsOff, AreClear}
-use Rattle.ghes_hub.specs.Plain.{HasPlainWindows}
+use Rattle.ghes_ack.specs.Windows.{HasAddressed}
 use Rattle.ghes_hub.specs.Refusals.{all_windows}
 
 -- free windows behind others
@@ -117,7 +117,7 @@ pub record Covers (layouts : List Layout) (ram : RamState) : Type 0 where
   pub fills : FillsWindows ram
   pub mapped : (at : Place) → IsMapped (all_windows layouts) at → IsMapped ram.windows at
 
-pub plain_has : (layouts : List Layout) (ram : RamState) (i : ℕ) (map : PlainMap) → Covers layouts ram → AreFree [] (all_windows layouts) → slice_get layouts i ≡ Some (Plain map) → 20 ≤ map.window.len → HasPlainWindows map ram
+pub plain_has : (layouts : List Layout) (ram : RamState) (i : ℕ) (map : PlainMap) → Covers layouts ram → AreFree [] (all_windows layouts) → slice_get layouts i ≡ Some (Plain map) → 20 ≤ map.window.len → HasAddressed map.status map.window ram
 plain_has layouts ram i map covers free is room =
     let f = (free_at [] layouts i (Plain map) free is).free in
     record {

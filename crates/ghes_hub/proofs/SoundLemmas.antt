@@ -35,27 +35,29 @@ use Rattle.ghes_hub.specs.declared.source.Source.{Source}
 use Rattle.ghes_hub.specs.Opens.{IsReady}
 use Rattle.ghes_hub.specs.OneSource.{SourceStands}
 use Rattle.ghes_hub.specs.Joins.{AreFree}
-use Rattle.ghes_hub.specs.Refusals.{generics, is_status, is_ack, has_ack, layout_by, layout_of, layouts_from, clashes, checked_source, after_check, source_refusal, or_else, sources_refusal, all_windows}
+use Rattle.ghes_hub.specs.Refusals.{generics, is_status, has_ack, layout_of, layouts_from, clashes, source_refusal, sources_refusal, all_windows}
 use Rattle.ghes_hub.proofs.OpenLemmas.{HaveBytes, free_is, clashes-append}
 use Rattle.ghes_hub.proofs.ReadyLemmas.{Covers, plain_has, acknowledged_has, free_apart}
 
-or_none : {X : Type 0} (a b : Option X) → or_else a b ≡ None → (a ≡ None) × (b ≡ None)
-or_none None b e = (refl, e)
-or_none (Some x) b e = absurd cc
+-- the source's own refusal, or one for a clash, or one of those behind it
+abbrev first_refusal : Bool → HubError → Option HubError → Option HubError → Option HubError
+first_refusal clash e later None = cond clash (Some e) later
+first_refusal clash e later (Some why) = Some why
 
-after_none : (r : Result (Unit {0}) HubError) (b : Option HubError) → after_check r b ≡ None → (r ≡ Ok tt) × (b ≡ None)
-after_none (Ok tt) b e = (refl, e)
-after_none (Err x) b e = absurd cc
+none_refused : (own : Option HubError) (clash : Bool) (e : HubError) (later : Option HubError) → first_refusal clash e later own ≡ None → (own ≡ None) × (clash ≡ false) × (later ≡ None)
+none_refused None false e later is = (refl, refl, is)
+none_refused None true e later is = absurd cc
+none_refused (Some why) clash e later is = absurd cc
 
-clash_none : (b : Bool) (e : HubError) → cond {A = Option HubError} b (Some e) None ≡ None → b ≡ false
-clash_none false e is = refl
-clash_none true e is = absurd cc
-
-tests_none : (a b c : Bool) (x y z : HubError) → cond {A = Result (Unit {0}) HubError} a (Err x) (cond {A = Result (Unit {0}) HubError} b (Err y) (cond {A = Result (Unit {0}) HubError} c (Err z) (Ok tt))) ≡ Ok tt → (a ≡ false) × (b ≡ false) × (c ≡ false)
+tests_none : (a b c : Bool) (x y z : HubError) → cond {A = Option HubError} a (Some x) (cond {A = Option HubError} b (Some y) (cond {A = Option HubError} c (Some z) None)) ≡ None → (a ≡ false) × (b ≡ false) × (c ≡ false)
 tests_none false false false x y z e = (refl, refl, refl)
 tests_none false false true x y z e = absurd cc
 tests_none false true c x y z e = absurd cc
 tests_none true b c x y z e = absurd cc
+
+-- source number i with another acknowledgement
+abbrev layout_by : ℕ → Ghes → Option Ack → Layout
+layout_by i source ack = layout_of i (record source { ack = ack })
 
 pub record Checked (source : Ghes) : Type 0 where
   pub low : 20 ≤ source.block_len
@@ -70,7 +72,7 @@ either_false : (a b : Bool) → (a || b) ≡ false → (a ≡ false) × (b ≡ f
 either_false false b e = (refl, e)
 either_false true b e = absurd cc
 
-pub checked_is : (i : ℕ) (source : Ghes) → checked_source i source ≡ Ok tt → Checked source
+pub checked_is : (i : ℕ) (source : Ghes) → source_refusal i source ≡ None → Checked source
 checked_is i source e =
     let t = tests_none (nat_lt source.block_len 20 || nat_lt 4096 source.block_len) (not (is_status (checked source.status))) (not (has_ack source.ack)) (BlockLen i source.block_len) (Status i) (BadAck i) e in
     let l = either_false (nat_lt source.block_len 20) (nat_lt 4096 source.block_len) t.0 in
@@ -115,12 +117,11 @@ pub record Sound (earlier : List Window) (i : ℕ) (sources : List Ghes) : Type 
 pub sound : (earlier : List Window) (i : ℕ) (sources : List Ghes) → sources_refusal earlier i sources ≡ None → Sound earlier i sources
 sound earlier i [] none = record { clash = refl; bytes = tt; few = omega arith; each = λ k layout is. absurd cc }
 sound earlier i (source ∷ sources) none =
-    let both = or_none (source_refusal earlier i source) (sources_refusal (earlier ++ layout_windows (layout_of i source)) (i + 1) sources) none in
-    let one = after_none (checked_source i source) (cond {A = Option HubError} (clashes earlier (layout_windows (layout_of i source))) (Some (Clash i)) None) both.0 in
-    let here = checked_is i source one.0 in
-    let rest = sound (earlier ++ layout_windows (layout_of i source)) (i + 1) sources both.1 in
+    let no = none_refused (source_refusal i source) (clashes earlier (layout_windows (layout_of i source))) (Clash i) (sources_refusal (earlier ++ layout_windows (layout_of i source)) (i + 1) sources) none in
+    let here = checked_is i source no.0 in
+    let rest = sound (earlier ++ layout_windows (layout_of i source)) (i + 1) sources no.2 in
     record {
-      clash = clashes-append earlier (layout_windows (layout_of i source)) (all_windows (layouts_from (i + 1) sources)) (clash_none (clashes earlier (layout_windows (layout_of i source))) (Clash i) one.1) rest.clash;
+      clash = clashes-append earlier (layout_windows (layout_of i source)) (all_windows (layouts_from (i + 1) sources)) no.1 rest.clash;
       bytes = bytes-append (layout_windows (layout_of i source)) (all_windows (layouts_from (i + 1) sources)) (have_bytes i source source.ack here.low) rest.bytes;
       few = let a = total-append (layout_windows (layout_of i source)) (all_windows (layouts_from (i + 1) sources)) in let b = few_bytes i source source.ack here.high in let c = rest.few in omega (arith, a, b, c);
       each = λ k layout is. at k layout is here rest;
@@ -148,7 +149,9 @@ width_most B16 = omega arith
 width_most B32 = omega arith
 width_most B64 = omega arith
 
-ack_bits : (gas : Gas) (r : Result Register BadRegister) (write : ℕ) → checked gas ≡ r → is_ack r write ≡ true → (0 < write * 2 ^ (register_of gas).offset % 2 ^ 64) × (write * 2 ^ (register_of gas).offset < 2 ^ bits (register_of gas).access)
+ack_bits : (gas : Gas) (r : Result Register BadRegister) (write : ℕ) → checked gas ≡ r →
+    elim r [ Ok register ↦ nat_lt 0 write && nat_lt (write * 2 ^ register.offset) (2 ^ bits register.access) | Err error ↦ false ] ≡ true →
+    (0 < write * 2 ^ (register_of gas).offset % 2 ^ 64) × (write * 2 ^ (register_of gas).offset < 2 ^ bits (register_of gas).access)
 ack_bits gas (Err error) write is e = absurd cc
 ack_bits gas (Ok register) write is e =
     let same = register_is gas register is in

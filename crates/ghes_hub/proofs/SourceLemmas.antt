@@ -16,13 +16,13 @@ use Rattle.ghes_ack.specs.Elsewhere.{SameWhere, SameInMap}
 use Rattle.ghes_ack.proofs.CallLemmas.{StandsFor-others}
 use Rattle.ghes_hub.specs.declared.source.Source.{Source}
 use Rattle.ghes_hub.specs.declared.source.Source.TheVariants.{Acknowledged, Plain}
-use Rattle.ghes_hub.specs.Kinds.{Kind}
+use Rattle.ghes_hub.specs.Kinds.{Kind, turned_by}
 use Rattle.ghes_ack.specs.Kept.{Agrees, kept_over}
 use Rattle.ghes_hub.proofs.PlainMemory.{plain_windows_kept}
 use Rattle.ghes_hub.specs.Plain.{PlainState, PlainStands}
 use Rattle.ghes_hub.specs.Places.{places_of, plain_places_of, IsOff, AreClear}
 use Rattle.ghes_hub.specs.OneSource.{kind_of, layout_in, windows_of, SourceStands, Stands, SamePlaces, SourceTurned}
-use Rattle.ghes_hub.specs.SourcesState.{SourcesState, layouts_in, AreServed, StandsAt, TurnsAt}
+use Rattle.ghes_hub.specs.SourcesState.{SourcesState, layouts_in, AreServed, StandsAt}
 
 pub slice_get-same : {X : Type 0} (xs : List X) (i : ℕ) (y : X) → i < length xs → slice_get (set xs i y) i ≡ Some y
 slice_get-same xs i y h =
@@ -113,15 +113,13 @@ same_post list i p q a b = let both = sym a ∙ b in cc
 -- the source itself
 pub turns_at : (ram new : RamState) (list : List Source) (i : ℕ) (before after : Source) (side : Side) (event : Event) → Moves ram new list i before after →
     ((m : Machine) → SourceStands before ram m → SourceTurned (kind_of before) side event after new m) →
-    (kind : Kind) (m : Machine) → StandsAt kind (record { ram = ram; list = list }) i m → TurnsAt kind i side event (record { ram = new; list = set list i after }) m
+    (kind : Kind) (m : Machine) → StandsAt kind (record { ram = ram; list = list }) i m →
+    (event ≡ (turned_by kind side m).0) × StandsAt kind (record { ram = new; list = set list i after }) i (turned_by kind side m).1
 turns_at ram new list i before after side event h turned kind m at =
     let e : at.handover ≡ before = same_post list i at.handover before at.is h.is in
     let k : kind_of before ≡ kind = ap kind_of (sym e) ∙ at.kind_is in
     let t : SourceTurned kind side event after new m = subst (λ (x : Kind). SourceTurned x side event after new m) k (turned m (subst (λ (p : Source). SourceStands p ram m) e at.stands)) in
-    record {
-      event_is = t.event_is;
-      stands = record { handover = after; is = slice_get-same list i after h.within; kind_is = h.places.kind ∙ k; stands = t.stands };
-    }
+    (t.event_is, record { handover = after; is = slice_get-same list i after h.within; kind_is = h.places.kind ∙ k; stands = t.stands })
 
 pub submits_at : (ram : RamState) (list : List Source) (i : ℕ) (before after : Source) (block : List ℕ) → Moves ram ram list i before after →
     ((any : RamState) (m : Machine) → SourceStands before any m → SourceStands after any (submitted m block)) →

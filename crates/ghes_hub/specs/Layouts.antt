@@ -8,7 +8,7 @@ use Rattle.ghes_hub.specs.declared.layouts.Layout.{Layout}
 use Rattle.ghes_hub.specs.declared.layouts.Layout.TheVariants.{Acknowledged, Plain}
 use Rattle.ghes_hub.specs.declared.source.Source.{Source}
 use Rattle.ghes_hub.specs.Kinds.{Kind, ByRegister, ByStatus}
-use Rattle.ghes_hub.specs.Plain.{HasPlainWindows, plain_window}
+use Rattle.ghes_ack.specs.Windows.{block_bytes, HasAddressed}
 use Rattle.ghes_hub.specs.Places.{places_of, plain_places_of, AreClear}
 use Rattle.ghes_hub.specs.OneSource.{kind_of, layout_in, windows_of, SourceStands}
 
@@ -23,11 +23,11 @@ layout_windows (Plain map) = plain_places_of map
 -- the memory has its windows
 abbrev pub HasLayout : Layout → RamState → Type 0
 HasLayout (Acknowledged map) ram = HasWindows map ram × HasAckBits map
-HasLayout (Plain map) ram = HasPlainWindows map ram
+HasLayout (Plain map) ram = HasAddressed map.status map.window ram
 
 abbrev pub layout_window : Layout → RamState → List ℕ
 layout_window (Acknowledged map) ram = window map ram
-layout_window (Plain map) ram = plain_window map ram
+layout_window (Plain map) ram = block_bytes map.window ram
 
 -- the memory has all of them, and no two have a byte in common
 pub record AreLaidOut (layouts : List Layout) (ram : RamState) : Type 0 where

@@ -1,5 +1,5 @@
 -- A source of either kind, and the states of the machine that it stands for.
-use Rattle.std.specs.Prelude.{◌≡◌, ℕ, List, Option}
+use Rattle.std.specs.Prelude.{◌≡◌, ℕ, List, length, Option}
 use Rattle.apei_space.specs.declared.windows.Window.{Window}
 use Rattle.apei_space.specs.RamState.{RamState}
 use Rattle.ghes_ack.specs.declared.events.Side.{Side}
@@ -7,12 +7,13 @@ use Rattle.ghes_ack.specs.declared.events.Event.{Event}
 use Rattle.ghes_ack.specs.declared.submission.SubmitError.{SubmitError}
 use Rattle.ghes_ack.specs.Machine.{Machine}
 use Rattle.ghes_ack.specs.Handovers.{StandsFor, refusal}
+use Rattle.ghes_ack.specs.Submissions.{refusal_of as refusal_within}
 use Rattle.ghes_hub.specs.declared.layouts.Layout.{Layout}
 use Rattle.ghes_hub.specs.declared.layouts.Layout.TheVariants.{Acknowledged as WithRegister, Plain as WithStatus}
 use Rattle.ghes_hub.specs.declared.source.Source.{Source}
 use Rattle.ghes_hub.specs.declared.source.Source.TheVariants.{Acknowledged, Plain}
 use Rattle.ghes_hub.specs.Kinds.{Kind, ByRegister, ByStatus, turned_by}
-use Rattle.ghes_hub.specs.Plain.{PlainStands, plain_refusal}
+use Rattle.ghes_hub.specs.Plain.{PlainStands}
 use Rattle.ghes_hub.specs.Places.{places_of, plain_places_of}
 
 abbrev pub kind_of : Source → Kind
@@ -44,9 +45,10 @@ abbrev pub last_of : Source → List ℕ
 last_of (Acknowledged h) = h.last
 last_of (Plain h) = h.last
 
+-- the first reason why a block is refused
 abbrev pub refusal_of : Source → List ℕ → Option SubmitError
 refusal_of (Acknowledged h) block = refusal h block
-refusal_of (Plain h) block = plain_refusal h block
+refusal_of (Plain h) block = refusal_within h.map.window.len block (length h.waiting)
 
 -- the same source in another state
 pub record SamePlaces (old new : Source) : Type 0 where

@@ -19,7 +19,8 @@ use Rattle.ghes_ack.specs.declared.ends.FirmwareEnd.TheVariants.{Writes, Waits}
 use Rattle.ghes_ack.specs.declared.ends.ReaderEnd.{ReaderEnd}
 use Rattle.ghes_ack.specs.declared.ends.ReaderEnd.TheVariants.{Looks, Reads, Acknowledges}
 use Rattle.ghes_hub.specs.Kinds.{ByStatus, turned_by}
-use Rattle.ghes_hub.specs.Plain.{HasPlainWindows, PlainState, PlainStands, plain_status, plain_window, plain_window_of, with_plain_window}
+use Rattle.ghes_ack.specs.Windows.{block_bytes, HasAddressed}
+use Rattle.ghes_hub.specs.Plain.{PlainState, PlainStands, plain_status, plain_window_of, with_plain_window}
 
 -- the block at work in each situation
 abbrev pub IsUnderWay : Situation → Blocks PlainMap → Type 0
@@ -55,7 +56,7 @@ pub record Turns (side : Side) (event : Event) (old new : WithMemory PlainState)
   pub event_is : event ≡ (turned_by ByStatus side m).0
   pub stands : PlainStands new.state new.memory (turned_by ByStatus side m).1
   pub map : new.state.map ≡ old.state.map
-  pub memory_is : new.memory ≡ with_plain_window old.state.map old.memory (plain_window old.state.map new.memory)
+  pub memory_is : new.memory ≡ with_plain_window old.state.map old.memory (block_bytes old.state.map.window new.memory)
 
 -- both sides after a turn of one of them
 pub record SideDone (side : Side) (event : Event) (ends next : Ends) (old new : Blocks PlainMap) (ram memory : RamState) : Type 0 where
@@ -71,7 +72,7 @@ firmware_at (Waits wait) = Published
 -- the firmware can make a turn
 abbrev pub FirmwareIsAble : FirmwareEnd → Blocks PlainMap → RamState → Type 0
 FirmwareIsAble (Writes write) b ram = IsSound Filling b × Stands (state_of Filling b) ram
-FirmwareIsAble (Waits wait) b ram = HasPlainWindows b.map ram
+FirmwareIsAble (Waits wait) b ram = HasAddressed b.map.status b.map.window ram
 
 -- a turn of a firmware that waits: the block is its own again exactly where the block status is 0
 abbrev pub FindsClear : PlainMap → RamState → Event → FirmwareEnd → Type 0
@@ -98,8 +99,8 @@ HasFittingWork b = IfSome b.at_work (λ block. length block.items ≤ b.map.wind
 
 -- the reader can make a turn
 abbrev pub ReaderIsAble : ReaderEnd → Blocks PlainMap → RamState → Type 0
-ReaderIsAble (Looks look) b ram = HasPlainWindows b.map ram
-ReaderIsAble (Reads read) b ram = IsSound Reading b × HasPlainWindows b.map ram × HasFittingWork b
+ReaderIsAble (Looks look) b ram = HasAddressed b.map.status b.map.window ram
+ReaderIsAble (Reads read) b ram = IsSound Reading b × HasAddressed b.map.status b.map.window ram × HasFittingWork b
 ReaderIsAble (Acknowledges end) b ram = ⊥
 
 -- a turn of a reader that looks for a block: there is one exactly where the block status isn't 0, and none of its pieces is copied
@@ -110,7 +111,7 @@ FindsBlock old ram event (Acknowledges end) new = ⊥
 
 -- the block at work with the window's next piece in its place
 abbrev pub with_next_piece : PlainState → RamState → List ℕ → List ℕ
-with_next_piece old ram block = read_over (plain_window old.map ram) block old.copied 1
+with_next_piece old ram block = read_over (block_bytes old.map.window ram) block old.copied 1
 
 -- a turn of a reader that may read the block: it copies the next piece, the last one too, or it clears the block status once it has them all
 pub data ReaderMakes (old : PlainState) (ram : RamState) (event : Event) (new : PlainState) (memory : RamState) : Type 0 where
@@ -120,7 +121,7 @@ pub data ReaderMakes (old : PlainState) (ram : RamState) (event : Event) (new : 
       new ≡ record old { at_work = Some (with_next_piece old ram block); copied = old.copied + 1; last = with_next_piece old ram block } →
       memory ≡ ram → ReaderMakes old ram event new memory
   Clears : (block : List ℕ) → old.at_work ≡ Some block → length block ≤ 64 * old.copied → event ≡ Clear →
-      new ≡ record old { situation = Acknowledged; at_work = None } → memory ≡ with_plain_window old.map ram (with_status (plain_window old.map ram) (spelled 4 0)) →
+      new ≡ record old { situation = Acknowledged; at_work = None } → memory ≡ with_plain_window old.map ram (with_status (block_bytes old.map.window ram) (spelled 4 0)) →
       ReaderMakes old ram event new memory
 
 -- a turn of the reader, whatever the firmware does

@@ -1,12 +1,10 @@
 -- Sources over one memory.
 use Rattle.std.specs.Prelude.{◌≡◌, ◌≢◌, ℕ, List, map, Some, slice_get}
 use Rattle.apei_space.specs.RamState.{RamState}
-use Rattle.ghes_ack.specs.declared.events.Side.{Side}
-use Rattle.ghes_ack.specs.declared.events.Event.{Event}
 use Rattle.ghes_ack.specs.Machine.{Machine}
 use Rattle.ghes_hub.specs.declared.layouts.Layout.{Layout}
 use Rattle.ghes_hub.specs.declared.source.Source.{Source}
-use Rattle.ghes_hub.specs.Kinds.{Kind, turned_by}
+use Rattle.ghes_hub.specs.Kinds.{Kind}
 use Rattle.ghes_hub.specs.Places.{AreClear}
 use Rattle.ghes_hub.specs.OneSource.{kind_of, layout_in, windows_of, SourceStands, Stands}
 
@@ -29,8 +27,3 @@ pub record StandsAt (kind : Kind) (s : SourcesState) (i : ℕ) (m : Machine) : T
   pub is : slice_get s.list i ≡ Some handover
   pub kind_is : kind_of handover ≡ kind
   pub stands : SourceStands handover s.ram m
-
--- a turn of source i
-pub record TurnsAt (kind : Kind) (i : ℕ) (side : Side) (event : Event) (new : SourcesState) (m : Machine) : Type 0 where
-  pub event_is : event ≡ (turned_by kind side m).0
-  pub stands : StandsAt kind new i (turned_by kind side m).1

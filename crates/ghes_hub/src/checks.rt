@@ -1,8 +1,8 @@
 // Whether an error source may be served.
-ghost use Rattle.std.specs.Prelude.{◌≡◌, ◌*◌, ◌^◌, ◌<◌, ◌&&◌, nat_lt, Some, Ok};
+ghost use Rattle.std.specs.Prelude.{◌≡◌, ◌*◌, ◌^◌, ◌<◌, ◌&&◌, nat_lt, Some, None, MatchResult};
 ghost use Rattle.apei_tables.specs.Access.{bits};
 ghost use Rattle.apei_tables.specs.Check.{checked};
-ghost use Rattle.ghes_hub.specs.Refusals.{is_status, has_ack, checked_source};
+ghost use Rattle.ghes_hub.specs.Refusals.{is_status, has_ack, source_refusal};
 
 use crate::errors::HubError;
 use apei_tables::{Gas, Place, Width};
@@ -10,7 +10,8 @@ use hest_sources::{Ack, Ghes};
 
 /// Whether a source may be served: a block of 20 to 4,096 bytes, and registers as they must be.
 pub fn check(index: usize, source: &Ghes) -> Result<(), HubError>
-    ensures { result ≡ checked_source index source.now }
+    ensures { MatchResult result (λ _. source_refusal index source.now ≡ None)
+        (λ error. source_refusal index source.now ≡ Some error) }
 {
     if source.block_len < 20 || source.block_len > 4096 {
         return Err(HubError::BlockLen {
@@ -39,11 +40,10 @@ fn is_status(status: &Gas) -> bool
 {
     match status.check() {
         Ok(register) => {
-            let in_memory = match register.place {
-                Place::Memory(_) => true,
+            match register.place {
+                Place::Memory(_) => register.offset == 0 && register.access.bytes() == 8,
                 Place::Io(_) => false,
-            };
-            in_memory && (register.offset == 0 && register.access.bytes() == 8)
+            }
         }
         Err(_) => false,
     }

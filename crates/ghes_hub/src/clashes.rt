@@ -1,7 +1,8 @@
 // Windows that have a byte in common, or end too late.
-ghost use Rattle.std.specs.Prelude.{◌≡◌, ◌++◌, ◌∷◌, [], ◌||◌, ◌&&◌, nat_lt, ◌<◌, ◌≤◌, ◌+◌, vec_len, vec_capacity};
+ghost use Rattle.std.specs.Prelude.{◌≡◌, ◌++◌, ◌∷◌, [], ◌||◌, ◌&&◌, not, nat_lt, ◌<◌, ◌≤◌, ◌+◌, ◌^◌, vec_len, vec_capacity};
 ghost use Rattle.ghes_hub.specs.Layouts.{layout_windows};
-ghost use Rattle.ghes_hub.specs.Refusals.{overlap_at, overlaps, is_late, clashes};
+ghost use Rattle.apei_space.specs.Windows.{address_of};
+ghost use Rattle.ghes_hub.specs.Refusals.{overlap_at, overlaps, clashes};
 
 use crate::layouts::Layout;
 use apei_space::Window;
@@ -48,7 +49,8 @@ fn memory(at: u64, len: u32) -> Window
 /// Puts a window behind others. It answers whether it clashes with one of them, or ends too late.
 fn put(window: Window, windows: &mut Vec<Window>) -> bool
     requires { vec_len windows.old < vec_capacity windows.old }
-    ensures clash { result ≡ (is_late window.place window.len || overlaps windows.old.items window) }
+    ensures clash { result ≡ (not (nat_lt (address_of window.place + window.len) (2 ^ 64))
+        || overlaps windows.old.items window) }
     ensures pushed { windows.new.items ≡ windows.old.items ++ window ∷ [] }
     ensures len { vec_len windows.new ≡ vec_len windows.old + 1 }
     ensures room { vec_capacity windows.new ≡ vec_capacity windows.old }
@@ -60,7 +62,7 @@ fn put(window: Window, windows: &mut Vec<Window>) -> bool
 
 /// Whether the last byte of a window stands at 2^64 - 1 or later.
 fn is_late(window: &Window) -> bool
-    ensures { result ≡ is_late window.now.place window.now.len }
+    ensures { result ≡ not (nat_lt (address_of window.now.place + window.now.len) (2 ^ 64)) }
 {
     let (Place::Memory(at) | Place::Io(at)) = window.place;
     at.checked_add(u64::from(window.len)).is_none()

@@ -1,6 +1,7 @@
 // Listeners that are dealt out to chains, and gathered again.
-ghost use Rattle.std.specs.Prelude.{◌≡◌, ◌<◌, ◌≤◌, ◌+◌, ◌++◌, length, IfOk, vec_len, vec_capacity, []};
-ghost use Rattle.ghes_hub.specs.Chains.{chains_of, in_order};
+ghost use Rattle.std.specs.Prelude.{◌≡◌, ◌<◌, ◌≤◌, ◌+◌, ◌++◌, length, IfOk, vec_len, vec_capacity, [], map};
+ghost use Rattle.apei_notify.specs.Chains.{members_of};
+ghost use Rattle.ghes_hub.specs.Chains.{in_order};
 ghost use Rattle.ghes_hub.specs.Deals.{AreDealt, AreEmpty, item_lists};
 
 use apei_bytes::OutOfMemory;
@@ -41,7 +42,7 @@ pub fn deal(lists: &mut Vec<Vec<Box<dyn Listener>>>, listeners: Vec<Box<dyn List
 pub fn chains(lists: Vec<Vec<Box<dyn Listener>>>, chains: &mut Vec<Chain>)
     requires none { chains.old.items ≡ [] }
     requires room { length lists.items ≤ vec_capacity chains.old }
-    ensures { chains_of chains.new.items ≡ item_lists lists.items }
+    ensures { map members_of chains.new.items ≡ item_lists lists.items }
 {
     for list in lists {
         chains.push_reserved(Chain::new(list));
@@ -50,8 +51,8 @@ pub fn chains(lists: Vec<Vec<Box<dyn Listener>>>, chains: &mut Vec<Chain>)
 
 /// Puts the members of chains behind others, chain by chain.
 pub fn gather(chains: Vec<Chain>, members: &mut Vec<Box<dyn Listener>>)
-    requires room { vec_len members.old + length (in_order (chains_of chains.items)) ≤ vec_capacity members.old }
-    ensures { members.new.items ≡ members.old.items ++ in_order (chains_of chains.items) }
+    requires room { vec_len members.old + length (in_order (map members_of chains.items)) ≤ vec_capacity members.old }
+    ensures { members.new.items ≡ members.old.items ++ in_order (map members_of chains.items) }
 {
     for chain in chains {
         for member in chain.into_members() {

@@ -1,6 +1,7 @@
 // The hub.
-ghost use Rattle.std.specs.Prelude.{◌≡◌, ◌≤◌, length, vec_capacity, []};
-ghost use Rattle.ghes_hub.specs.Chains.{chains_of, in_order};
+ghost use Rattle.std.specs.Prelude.{◌≡◌, ◌≤◌, length, vec_capacity, [], map};
+ghost use Rattle.apei_notify.specs.Chains.{members_of};
+ghost use Rattle.ghes_hub.specs.Chains.{in_order};
 
 mod calls;
 mod open;
@@ -18,5 +19,5 @@ pub struct Hub {
     ghost one_each: { length chains.items ≡ length sources.list },
     ghost few: { length chains.items ≤ 16 },
     ghost empty: { members.items ≡ [] },
-    ghost room: { length (in_order (chains_of chains.items)) ≤ vec_capacity members },
+    ghost room: { length (in_order (map members_of chains.items)) ≤ vec_capacity members },
 }

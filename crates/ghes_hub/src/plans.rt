@@ -1,8 +1,8 @@
 // The layouts of a table's sources.
-ghost use Rattle.std.specs.Prelude.{◌≡◌, ◌++◌, ◌∷◌, OnOk, ◌<◌, ◌≤◌, ◌+◌, ◌*◌, [], List, length, Some, None, Ok, MatchResult, vec_len, vec_capacity};
+ghost use Rattle.std.specs.Prelude.{◌≡◌, ◌⊎◌, ◌++◌, ◌∷◌, OnOk, IfOk, IfErr, ◌<◌, ◌≤◌, ◌+◌, ◌*◌, [], List, true, false, length, Some, None, MatchResult, vec_len, vec_capacity};
 ghost use Rattle.hest_sources.specs.declared.sources.HestSource.{HestSource as AnySource};
 ghost use Rattle.ghes_hub.specs.Layouts.{layout_windows};
-ghost use Rattle.ghes_hub.specs.Refusals.{generics, layout_of, layouts_from, checked_source, source_refusal, sources_refusal, all_windows};
+ghost use Rattle.ghes_hub.specs.Refusals.{generics, layout_of, layouts_from, clashes, source_refusal, sources_refusal, all_windows};
 
 use crate::checks::check;
 use crate::clashes::put_all;
@@ -109,9 +109,13 @@ fn plan_one(
 fn lay(index: usize, source: &Ghes, windows: &mut Vec<Window>) -> Result<Layout, HubError>
     requires few { index < 16 }
     requires room { vec_len windows.old + 3 ≤ vec_capacity windows.old }
-    ensures exact { MatchResult result (λ layout. (source_refusal windows.old.items index source.now ≡ None)
-        × (layout ≡ layout_of index source.now) × (windows.new.items ≡ windows.old.items ++ layout_windows layout))
-        (λ error. source_refusal windows.old.items index source.now ≡ Some error) }
+    ensures laid { IfOk result (λ layout. (source_refusal index source.now ≡ None)
+        × (clashes windows.old.items (layout_windows (layout_of index source.now)) ≡ false)
+        × (layout ≡ layout_of index source.now) × (windows.new.items ≡ windows.old.items ++ layout_windows layout)) }
+    ensures refused { IfErr result (λ error. (source_refusal index source.now ≡ Some error)
+        ⊎ ((source_refusal index source.now ≡ None)
+        × (clashes windows.old.items (layout_windows (layout_of index source.now)) ≡ true)
+        × (error ≡ HubError.Clash index))) }
     ensures len { vec_len windows.new ≤ vec_len windows.old + 3 }
     ensures room { vec_capacity windows.new ≡ vec_capacity windows.old }
 {
@@ -128,7 +132,7 @@ fn lay(index: usize, source: &Ghes, windows: &mut Vec<Window>) -> Result<Layout,
 /// Where the parts of a source lie.
 fn layout_of(index: usize, source: &Ghes) -> Layout
     requires few { index < 16 }
-    requires checked { checked_source index source.now ≡ Ok tt }
+    requires checked { source_refusal index source.now ≡ None }
     ensures { result ≡ layout_of index source.now }
 {
     let block = BLOCKS + STRIDE * index as u64;

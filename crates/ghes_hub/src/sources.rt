@@ -2,11 +2,11 @@
 ghost use Rattle.std.specs.Prelude.{◌≡◌, ◌≢◌, ℕ, ◌<◌, ◌≤◌, length, IfOk, OnOk, OnErr, MatchResult, IfSome, Some, None, slice_get, true};
 ghost use Rattle.ghes_ack.specs.Machine.{Machine, submitted};
 ghost use Rattle.ghes_hub.specs.Hubs.{last_in};
-ghost use Rattle.ghes_hub.specs.Kinds.{Kind};
+ghost use Rattle.ghes_hub.specs.Kinds.{Kind, turned_by};
 ghost use Rattle.ghes_hub.specs.Layouts.{AreLaidOut, AreBegun};
 ghost use Rattle.ghes_hub.specs.OneSource.{waiting_of, refusal_of};
 ghost use Rattle.ghes_hub.specs.Runs.{takes};
-ghost use Rattle.ghes_hub.specs.SourcesState.{StandsAt, TurnsAt, layouts_in};
+ghost use Rattle.ghes_hub.specs.SourcesState.{StandsAt, layouts_in};
 
 use crate::layouts::Layout;
 use crate::source::Source;
@@ -61,7 +61,7 @@ impl Sources {
     pub fn turn(&mut self, source: usize, side: Side) -> Event
         requires { source < length self.old.list }
         ensures turned { (kind : Kind) (m : Machine) → StandsAt kind self.old source m
-            → TurnsAt kind source side result self.new m }
+            → (result ≡ (turned_by kind side m).0) × StandsAt kind self.new source (turned_by kind side m).1 }
         ensures others { (kind : Kind) (other : ℕ) (m : Machine) → other ≢ source → StandsAt kind self.old other m
             → StandsAt kind self.new other m }
         ensures layouts { layouts_in self.new ≡ layouts_in self.old }

@@ -18,9 +18,9 @@ use Rattle.hub_script.specs.Replies.{refused, reply_line, text_of_replies, words
 use Rattle.script_text.specs.Shown.{IsPartWritten}
 use Rattle.script_lines.specs.Streams.{stream_of}
 use Rattle.hub_script.specs.Stages.{HubStage, Waiting, Serving}
-use Rattle.hub_script.specs.Plays.{Plays, OnlySays, source_of, AllNamed, Turned, NoTurn, OneMore, AllTurned}
+use Rattle.hub_script.specs.Plays.{Plays, source_of, AllNamed, Turned, NoTurn, OneMore, IsBlank, IsComment, AllTurned, NoHubForBlock, NoHubForTurns, NoHubToCount, NoHubToDrop}
 use Rattle.script_text.specs.Turns.{side_of}
-use Rattle.hub_script.specs.Lines.{PlaysLine, PlaysUnwritten, TextIs, IsLeft, LeftOfTurns, AtLast, InBlock, IsTable}
+use Rattle.hub_script.specs.Lines.{PlaysLine, PlaysUnwritten, TextIs, IsLeft, AtLast, InBlock, IsTable}
 use Rattle.hub_script.proofs.Terms.{GivesTable}
 use Rattle.hub_script.specs.Made.{MakesReply}
 use Rattle.script_text.proofs.ShownLemmas.{flat_map-append}
@@ -35,15 +35,14 @@ asks_hub (turns pairs) = true
 asks_hub (heard source) = true
 asks_hub (removal source at) = true
 
-while_waiting : {L : Type 0} (hearing : L → Hearing) (listeners : List L) (line : Line) (said : List (List ℕ)) (calls : List Call) (new : HubStage L) → asks_hub line ≡ true
-    → OnlySays (refused (words_of_refusal NoHub) ∷ []) (Waiting listeners) said calls new → Plays hearing (Waiting listeners) line said calls new
-while_waiting hearing listeners blank said calls new asks is = absurd (cc asks)
-while_waiting hearing listeners (comment rest) said calls new asks is = absurd (cc asks)
-while_waiting hearing listeners (hest hex) said calls new asks is = absurd (cc asks)
-while_waiting hearing listeners (error source hex) said calls new asks is = is
-while_waiting hearing listeners (turns pairs) said calls new asks is = is
-while_waiting hearing listeners (heard source) said calls new asks is = is
-while_waiting hearing listeners (removal source at) said calls new asks is = is
+while_waiting : {L : Type 0} (hearing : L → Hearing) (listeners : List L) (line : Line) → asks_hub line ≡ true → Plays hearing (Waiting listeners) line (refused (words_of_refusal NoHub) ∷ []) [] (Waiting listeners)
+while_waiting hearing listeners blank asks = absurd (cc asks)
+while_waiting hearing listeners (comment rest) asks = absurd (cc asks)
+while_waiting hearing listeners (hest hex) asks = absurd (cc asks)
+while_waiting hearing listeners (error source hex) asks = NoHubForBlock
+while_waiting hearing listeners (turns pairs) asks = NoHubForTurns
+while_waiting hearing listeners (heard source) asks = NoHubToCount
+while_waiting hearing listeners (removal source at) asks = NoHubToDrop
 
 -- one reply is a text
 one_text : (words : List ℕ) → text_of_replies (words ∷ []) ≡ reply_line words
@@ -54,16 +53,6 @@ more_text : (written : List ℕ) (said : List (List ℕ)) (words : List ℕ) →
 more_text written said words =
     append_assoc written (text_of_replies said) (reply_line words)
     ∙ ap (λ (xs : List ℕ). written ++ xs) (ap (λ (xs : List ℕ). text_of_replies said ++ xs) (sym (one_text words)) ∙ sym (flat_map-append reply_line said (words ∷ [])))
-
--- a line of one reply has it left
-left_one : {L : Type 0} (hearing : L → Hearing) (old : HubStage L) (line : Line) (words : List ℕ) (calls : List Call) (new : HubStage L) → Plays hearing old line (words ∷ []) calls new → IsLeft line line (words ∷ []) [] words
-left_one hearing old blank words calls new is = absurd (cc is.said_is)
-left_one hearing old (comment rest) words calls new is = absurd (cc is.said_is)
-left_one hearing old (hest hex) words calls new is = (refl, refl, refl)
-left_one hearing old (error source hex) words calls new is = (refl, refl, refl)
-left_one hearing old (turns pairs) words calls new is = AtLast pairs [] words
-left_one hearing old (heard source) words calls new is = (refl, refl, refl)
-left_one hearing old (removal source at) words calls new is = (refl, refl, refl)
 
 module _ {L : Type 0} (hearing : L → Hearing) (told_sink : Type 0) (old new : HubStage L) (line : Line) (written now : List ℕ) where
   -- a line of one reply, which was written
@@ -78,8 +67,7 @@ module _ {L : Type 0} (hearing : L → Hearing) (told_sink : Type 0) (old new : 
     calls = calls;
     before = [];
     last = words;
-    left = left_one hearing old line words calls new plays;
-    named = inl refl;
+    left = AtLast [] words;
     plays = plays;
     text = λ t. let part = text t in (part.0, part.1 ∙ ap (λ (xs : List ℕ). xs ++ take part.0 (reply_line words)) (sym (append-nil written)));
   }
@@ -97,7 +85,7 @@ pub no_hub : {L : Type 0} (hearing : L → Hearing) (listeners : List L) (line :
 no_hub hearing listeners line reply asks is = record {
   words = refused (words_of_refusal NoHub);
   calls = [];
-  plays = while_waiting hearing listeners line (refused (words_of_refusal NoHub) ∷ []) [] (Waiting listeners) asks (record { said_is = refl; calls_are = refl; stays = refl });
+  plays = while_waiting hearing listeners line asks;
   text = is;
 }
 
@@ -201,6 +189,7 @@ module _ {L : Type 0} (hearing : L → Hearing) (told_sink : Type 0) where
       let front = take (2 * (at + 1)) all in
       let block = words_of_block (source_of digit) (last_in new.sources (source_of digit)) in
       let events = so.events ++ Took ∷ [] in
+      let whole : front ++ drop (2 * (at + 1)) all ≡ all = take-append-drop (2 * (at + 1)) all in
       let made : Turned hearing old front (so.calls ++ Turns (source_of digit) (side_of letter) Took ∷ []) events (so.said ++ block ∷ []) new =
       subst (λ (pairs : List ℕ). Turned hearing old pairs (so.calls ++ Turns (source_of digit) (side_of letter) Took ∷ []) events (so.said ++ block ∷ []) new) (sym (two_more all at within))
       (OneMore (take (2 * at) all) so.calls so.events so.said mid digit letter Took new so.turned turn.turned) in
@@ -210,10 +199,9 @@ module _ {L : Type 0} (hearing : L → Hearing) (told_sink : Type 0) where
         calls = so.calls ++ Turns (source_of digit) (side_of letter) Took ∷ [];
         before = so.said;
         last = block;
-        left = subst (λ (xs : List ℕ). LeftOfTurns xs (turns front) ((so.said ++ block ∷ []) ++ words_of_turns events ∷ []) so.said block) (take-append-drop (2 * (at + 1)) all)
-            (subst (λ (xs : List (List ℕ)). LeftOfTurns (front ++ drop (2 * (at + 1)) all) (turns front) xs so.said block) (sym (append_assoc so.said (block ∷ []) (words_of_turns events ∷ [])))
-            (InBlock front (drop (2 * (at + 1)) all) so.events so.said block));
-        named = inr named;
+        left = subst (λ (xs : List ℕ). IsLeft (Serving old) (turns xs) (turns front) ((so.said ++ block ∷ []) ++ words_of_turns events ∷ []) so.said block) whole
+            (subst (λ (xs : List (List ℕ)). IsLeft (Serving old) (turns (front ++ drop (2 * (at + 1)) all)) (turns front) xs so.said block) (sym (append_assoc so.said (block ∷ []) (words_of_turns events ∷ [])))
+            (InBlock front (drop (2 * (at + 1)) all) so.events so.said block (subst (AllNamed old) (sym whole) named)));
         plays = AllTurned (so.calls ++ Turns (source_of digit) (side_of letter) Took ∷ []) events (so.said ++ block ∷ []) new (named_front old all (2 * (at + 1)) (omega (arith, within)) named) made;
         text = λ t. let part = turn.text t in (part.0, part.1 ∙ ap (λ (xs : List ℕ). xs ++ take part.0 (reply_line block)) (so.text t));
       }
@@ -256,8 +244,7 @@ module _ {L : Type 0} (hearing : L → Hearing) (told_sink : Type 0) where
         calls = so.calls;
         before = so.said;
         last = words_of_turns so.events;
-        left = AtLast all so.said (words_of_turns so.events);
-        named = inl refl;
+        left = AtLast so.said (words_of_turns so.events);
         plays = AllTurned so.calls so.events so.said new named so.turned;
         text = λ t. let part = text t in (
           part.0,
@@ -291,18 +278,41 @@ is_named first now pairs at source named within is count = let here = named at w
 
 -- a blank line says nothing
 pub blank_played : {L : Type 0} (hearing : L → Hearing) (told_sink : Type 0) (stage : HubStage L) (written : List ℕ) → PlaysLine hearing (stream_of told_sink written written) stage blank stage
-blank_played hearing told_sink stage written = record { said = []; calls = []; plays = record { said_is = refl; calls_are = refl; stays = refl }; text = λ t. sym (append-nil written) }
+blank_played hearing told_sink stage written = record { said = []; calls = []; plays = IsBlank; text = λ t. sym (append-nil written) }
+
+-- a comment is played as a blank line
+as_comment : {L : Type 0} (hearing : L → Hearing) (old : HubStage L) (said : List (List ℕ)) (calls : List Call) (new : HubStage L) (rest : List ℕ) → Plays hearing old blank said calls new → Plays hearing old (comment rest) said calls new
+as_comment hearing old said calls new rest IsBlank = IsComment
 
 -- the line that a text is, a comment where it is one
 pub text_is : {L : Type 0} (hearing : L → Hearing) (told_sink : Type 0) (old new : HubStage L) (written now text : List ℕ) (line : HubLine) → IsText text line → PlaysLine hearing (stream_of told_sink written now) old (line_of line) new
     → TextIs text (λ asked. PlaysLine hearing (stream_of told_sink written now) old asked new)
 text_is hearing told_sink old new written now text Blank (inl is) plays = record { line = blank; written = is; made = plays }
-text_is hearing told_sink old new written now text Blank (inr (rest, is)) plays = record { line = comment rest; written = is; made = record { said = plays.said; calls = plays.calls; plays = plays.plays; text = plays.text } }
+text_is hearing told_sink old new written now text Blank (inr (rest, is)) plays = record { line = comment rest; written = is; made = record { said = plays.said; calls = plays.calls; plays = as_comment hearing old plays.said plays.calls new rest plays.plays; text = plays.text } }
 text_is hearing told_sink old new written now text (Hest hex) is plays = record { line = hest hex.now; written = is; made = plays }
 text_is hearing told_sink old new written now text (Error source hex) is plays = record { line = error source hex.now; written = is; made = plays }
 text_is hearing told_sink old new written now text (TurnsOf pairs) is plays = record { line = turns pairs.now; written = is; made = plays }
 text_is hearing told_sink old new written now text (Heard source) is plays = record { line = heard source; written = is; made = plays }
 text_is hearing told_sink old new written now text (Drop source at) is plays = record { line = removal source at; written = is; made = plays }
+
+-- a blank line has no reply that the sink refuses
+none_said : {L : Type 0} (hearing : L → Hearing) (old : HubStage L) (said : List (List ℕ)) (calls : List Call) (new : HubStage L) → Plays hearing old blank said calls new → said ≡ []
+none_said hearing old said calls new IsBlank = refl
+
+none_left : {L : Type 0} (hearing : L → Hearing) (old : HubStage L) (made : Line) (said before : List (List ℕ)) (last : List ℕ) (calls : List Call) (new : HubStage L) → IsLeft old blank made said before last → Plays hearing old made said calls new → ⊥
+none_left hearing old made said before last calls new (AtLast some end) plays =
+    let none = ap length (none_said hearing old _ calls new plays) in
+    let more = length-append some (end ∷ []) in
+    omega (arith, none, more)
+
+pub text_unwritten : {L : Type 0} (hearing : L → Hearing) (told_sink : Type 0) (old new : HubStage L) (written now text : List ℕ) (line : HubLine) → IsText text line → PlaysUnwritten hearing (stream_of told_sink written now) old (line_of line) new
+    → TextIs text (λ asked. PlaysUnwritten hearing (stream_of told_sink written now) old asked new)
+text_unwritten hearing told_sink old new written now text Blank is plays = absurd (none_left hearing old plays.made plays.said plays.before plays.last plays.calls new plays.left plays.plays)
+text_unwritten hearing told_sink old new written now text (Hest hex) is plays = record { line = hest hex.now; written = is; made = plays }
+text_unwritten hearing told_sink old new written now text (Error source hex) is plays = record { line = error source hex.now; written = is; made = plays }
+text_unwritten hearing told_sink old new written now text (TurnsOf pairs) is plays = record { line = turns pairs.now; written = is; made = plays }
+text_unwritten hearing told_sink old new written now text (Heard source) is plays = record { line = heard source; written = is; made = plays }
+text_unwritten hearing told_sink old new written now text (Drop source at) is plays = record { line = removal source at; written = is; made = plays }
 
 -- and its table, where it gives one
 pub gives_table : (text : List ℕ) (line : HubLine) → IsText text line → IsTable line → GivesTable text

@@ -16,9 +16,9 @@ use Rattle.hub_script.specs.Replies.{text_of_replies, reply_line}
 use Rattle.script_lines.specs.Streams.{stream_of}
 use Rattle.hub_script.specs.Stages.{HubStage, Waiting, members_in}
 use Rattle.hub_script.specs.Plays.{Plays}
-use Rattle.hub_script.specs.Lines.{PlaysLine, PlaysUnwritten, TextIs, PairsAreNamed}
+use Rattle.hub_script.specs.Lines.{PlaysLine, PlaysUnwritten, TextIs}
 use Rattle.hub_script.proofs.Terms.{GivesTable}
-use Rattle.hub_script.specs.History.{Played, Follows, stage_behind, text_of_played}
+use Rattle.hub_script.specs.History.{Played, Follows, text_of_played}
 use Rattle.hub_script.specs.Scripts.{IsUnwritten, PlaysScript, ServesScript}
 use Rattle.script_lines.specs.Ends.{EndsReading, fault_of}
 use Rattle.script_lines.specs.declared.ending.ScriptEnd.{ScriptEnd}
@@ -34,11 +34,6 @@ Follows-push : {L : Type 0} (hearing : L → Hearing) (first : HubStage L) (some
     → Plays hearing mid one.line one.said one.calls one.left → Follows hearing first (some ++ one ∷ []) one.left
 Follows-push {L} hearing first [] mid one is plays = (subst (λ (stage : HubStage L). Plays hearing stage one.line one.said one.calls one.left) is plays, refl)
 Follows-push hearing first (head ∷ some) mid one (plays, follows) line = (plays, Follows-push hearing head.left some mid one follows line)
-
--- the stage behind lines is the one that the last of them left
-behind_is : {L : Type 0} (hearing : L → Hearing) (first : HubStage L) (some : List (Played L)) (last : HubStage L) → Follows hearing first some last → stage_behind first some ≡ last
-behind_is hearing first [] last follows = sym follows
-behind_is hearing first (head ∷ some) last (plays, follows) = behind_is hearing head.left some last follows
 
 text-push : {L : Type 0} (some : List (Played L)) (one : Played L) → text_of_played (some ++ one ∷ []) ≡ text_of_played some ++ text_of_replies one.said
 text-push [] one = append-nil (text_of_replies one.said)
@@ -65,7 +60,7 @@ module _ {L : Type 0} (hearing : L → Hearing) (told_source told_sink : Type 0)
     ends = lines_end IsLine GivesTable told_source script rest rest_now so_far.lines a b ending order so_far.read end;
     played = so_far.played;
     follows = so_far.follows;
-    are = whole (λ (text : List ℕ) (one : Played L). IsWritten text one.line) (IsUnwritten (stream_of told_sink written now) old) (λ (all : List (Played L)). told_sink → now ≡ written ++ text_of_played all)
+    are = whole (λ (text : List ℕ) (one : Played L). IsWritten text one.line) (IsUnwritten hearing (stream_of told_sink written now) old) (λ (all : List (Played L)). told_sink → now ≡ written ++ text_of_played all)
         told_source a b rest rest_now so_far.lines so_far.played ending end (so_far.are, so_far.text);
     waits = λ memory. absurd (not_memory told_source a b rest rest_now ending end memory);
   }
@@ -97,13 +92,14 @@ module _ {L : Type 0} (hearing : L → Hearing) (told_source told_sink : Type 0)
     ends_unwritten new now stands plays =
         let made = plays.made in
         let one : Played L = record { line = made.made; said = made.said; calls = made.calls; left = new } in
-        let unwritten : IsUnwritten (stream_of told_sink written now) old so_far.played text one = record {
+        let unwritten : IsUnwritten hearing (stream_of told_sink written now) old so_far.played text one = record {
           line = plays.line;
           is = plays.written;
+          behind = mid;
+          follows = so_far.follows;
           before = made.before;
           unwritten = made.last;
           left = made.left;
-          named = subst (λ (stage : HubStage L). (made.made ≡ plays.line) ⊎ PairsAreNamed stage plays.line) (sym (behind_is hearing old so_far.played mid so_far.follows)) made.named;
           wrote = λ told. let part = made.text told in (part.0, part.1 ∙ ap (λ (bs : List ℕ). bs ++ text_of_replies made.before ++ take part.0 (reply_line made.last)) (so_far.text told));
         } in
         record {
@@ -119,7 +115,7 @@ module _ {L : Type 0} (hearing : L → Hearing) (told_source told_sink : Type 0)
             last = one;
             played_is = refl;
             are = so_far.are;
-            made = is_this (λ (words : List ℕ). IsUnwritten (stream_of told_sink written now) old so_far.played words one) unwritten;
+            made = is_this (λ (words : List ℕ). IsUnwritten hearing (stream_of told_sink written now) old so_far.played words one) unwritten;
           };
           waits = λ e. absurd (cc e);
         }

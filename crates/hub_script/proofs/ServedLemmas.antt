@@ -4,28 +4,27 @@ use Rattle.std.specs.List.{flat_map}
 use Rattle.apei_notify.specs.Telling.{Hearing}
 use Rattle.hest_sources.specs.declared.sources.HestSource.{HestSource}
 use Rattle.ghes_ack.specs.declared.events.Event.{Event}
-use Rattle.ghes_hub.specs.Hubs.{HubState, Call, Submits, Turns, Removes, Does, DoAll}
+use Rattle.ghes_hub.specs.Hubs.{HubState, Call, Submits, Turns, Removes, DoAll}
 use Rattle.ghes_hub.specs.Opens.{IsOpened}
 use Rattle.ghes_hub.proofs.OpenLemmas.{from_opening}
-use Rattle.hub_script.specs.HubGrammar.{Line, blank, comment, hest, error, turns, heard, removal}
+use Rattle.hub_script.specs.HubGrammar.{Line}
 use Rattle.hub_script.specs.Stages.{HubStage, Waiting, Serving}
-use Rattle.hub_script.specs.Plays.{Plays, source_of, NoTable, NoOpening, Opened, NoSource, NotTaken, Queued, Turned, NoTurn, OneMore, NotNamed, AllTurned, NoneToCount, Counted, NoneToDrop, NoListener, Dropped}
+use Rattle.hub_script.specs.Plays.{Plays, source_of, IsBlank, IsComment, NoTable, NoOpening, Opened, IsOpenAlready, NoHubForBlock, NoSource, NotTaken, Queued, Turned, NoTurn, OneMore, NoHubForTurns, NotNamed, AllTurned, NoHubToCount, NoneToCount, Counted, NoHubToDrop, NoneToDrop, NoListener, Dropped}
 use Rattle.script_text.specs.Turns.{side_of}
 use Rattle.hub_script.specs.History.{Played, Follows, AreServed, NoHub, ByHub}
 
 -- calls, and then calls
 do-append : {L : Type 0} (hearing : L → Hearing) (one two : List Call) (first mid last : HubState L) → DoAll hearing one first mid → DoAll hearing two mid last → DoAll hearing (one ++ two) first last
 do-append {L} hearing [] two first mid last same later = subst (λ (h : HubState L). DoAll hearing two h last) same later
-do-append hearing (call ∷ one) two first mid last (between, does, later) rest = (between, does, do-append hearing one two between mid last later rest)
-
-do-one : {L : Type 0} (hearing : L → Hearing) (call : Call) (first last : HubState L) → Does hearing call first last → DoAll hearing (call ∷ []) first last
-do-one hearing call first last does = (last, does, refl)
+do-append hearing (Submits i block ∷ one) two first mid last (between, does, later) rest = (between, does, do-append hearing one two between mid last later rest)
+do-append hearing (Turns i side event ∷ one) two first mid last (between, does, later) rest = (between, does, do-append hearing one two between mid last later rest)
+do-append hearing (Removes i at ∷ one) two first mid last (between, does, later) rest = (between, does, do-append hearing one two between mid last later rest)
 
 turned_does : {L : Type 0} (hearing : L → Hearing) (old : HubState L) (pairs : List ℕ) (calls : List Call) (events : List Event) (said : List (List ℕ)) (new : HubState L) → Turned hearing old pairs calls events said new → DoAll hearing calls old new
 turned_does hearing old pairs calls events said new is = elim is as (λ pairs calls events said new is. DoAll hearing calls old new) [
   | NoTurn ↦ refl
   | OneMore pairs calls events said mid digit letter event new (before → does) turn ↦
-      do-append hearing calls (Turns (source_of digit) (side_of letter) event ∷ []) old mid new does (do-one hearing (Turns (source_of digit) (side_of letter) event) mid new turn)
+      do-append hearing calls (Turns (source_of digit) (side_of letter) event ∷ []) old mid new does (new, turn, refl)
 ]
 
 -- a line of a hub that serves makes calls of that hub
@@ -34,31 +33,23 @@ record MakesCalls {L : Type 0} (hearing : L → Hearing) (hub : HubState L) (cal
   serving : new ≡ Serving after
   does : DoAll hearing calls hub after
 
-no_calls : {L : Type 0} (hearing : L → Hearing) (hub : HubState L) (calls : List Call) (new : HubStage L) → calls ≡ [] → new ≡ Serving hub → MakesCalls hearing hub calls new
-no_calls {L} hearing hub calls new none same = record { after = hub; serving = same; does = subst (λ (cs : List Call). DoAll hearing cs hub hub) (sym none) refl }
+no_calls : {L : Type 0} (hearing : L → Hearing) (hub : HubState L) → MakesCalls hearing hub [] (Serving hub)
+no_calls hearing hub = record { after = hub; serving = refl; does = refl }
 
 makes_calls : {L : Type 0} (hearing : L → Hearing) (hub : HubState L) (line : Line) (said : List (List ℕ)) (calls : List Call) (new : HubStage L) → Plays hearing (Serving hub) line said calls new → MakesCalls hearing hub calls new
-makes_calls hearing hub blank said calls new is = no_calls hearing hub calls new is.calls_are is.stays
-makes_calls hearing hub (comment rest) said calls new is = no_calls hearing hub calls new is.calls_are is.stays
-makes_calls hearing hub (hest hex) said calls new is = no_calls hearing hub calls new is.calls_are is.stays
-makes_calls hearing hub (error source hex) said calls new is = elim is as (λ said calls new is. MakesCalls hearing hub calls new) [
-  | NoSource none ↦ no_calls hearing hub [] (Serving hub) refl refl
-  | NotTaken block handover why within decoded at refuses ↦ no_calls hearing hub [] (Serving hub) refl refl
-  | Queued block handover after new within decoded at taken submits then ↦ record { after = new; serving = refl; does = do-one hearing (Submits source block) hub new submits }
-]
-makes_calls hearing hub (turns pairs) said calls new is = elim is as (λ said calls new is. MakesCalls hearing hub calls new) [
-  | NotNamed at within none ↦ no_calls hearing hub [] (Serving hub) refl refl
-  | AllTurned calls events said new named turned ↦ record { after = new; serving = refl; does = turned_does hearing hub pairs calls events said new turned }
-]
-makes_calls hearing hub (heard source) said calls new is = elim is as (λ said calls new is. MakesCalls hearing hub calls new) [
-  | NoneToCount none ↦ no_calls hearing hub [] (Serving hub) refl refl
-  | Counted members within at ↦ no_calls hearing hub [] (Serving hub) refl refl
-]
-makes_calls hearing hub (removal source at) said calls new is = elim is as (λ said calls new is. MakesCalls hearing hub calls new) [
-  | NoneToDrop none ↦ no_calls hearing hub [] (Serving hub) refl refl
-  | NoListener members within there none ↦ no_calls hearing hub [] (Serving hub) refl refl
-  | Dropped members new within there some removes ↦ record { after = new; serving = refl; does = do-one hearing (Removes source at) hub new removes }
-]
+makes_calls hearing hub line said calls new IsBlank = no_calls hearing hub
+makes_calls hearing hub line said calls new IsComment = no_calls hearing hub
+makes_calls hearing hub line said calls new IsOpenAlready = no_calls hearing hub
+makes_calls hearing hub line said calls new (NoSource none) = no_calls hearing hub
+makes_calls hearing hub line said calls new (NotTaken block handover why within decoded at refuses) = no_calls hearing hub
+makes_calls hearing hub line said calls new (Queued block handover after then within decoded at taken submits there) = record { after = then; serving = refl; does = (then, submits, refl) }
+makes_calls hearing hub line said calls new (NotNamed at within none) = no_calls hearing hub
+makes_calls hearing hub line said calls new (AllTurned made events shown then named turned) = record { after = then; serving = refl; does = turned_does hearing hub _ made events shown then turned }
+makes_calls hearing hub line said calls new (NoneToCount none) = no_calls hearing hub
+makes_calls hearing hub line said calls new (Counted members within at) = no_calls hearing hub
+makes_calls hearing hub line said calls new (NoneToDrop none) = no_calls hearing hub
+makes_calls hearing hub line said calls new (NoListener members within there none) = no_calls hearing hub
+makes_calls hearing hub line said calls new (Dropped members then within there some removes) = record { after = then; serving = refl; does = (then, removes, refl) }
 
 -- all calls of the hub, in order
 abbrev calls_of : {L : Type 0} → List (Played L) → List Call
@@ -81,21 +72,19 @@ record MayOpen {L : Type 0} (listeners : List L) (calls : List Call) (new : HubS
   none : calls ≡ []
   opens : (new ≡ Waiting listeners) ⊎ ((table : List HestSource) × (hub : HubState L) × IsOpened table listeners hub × (new ≡ Serving hub))
 
-waits_on : {L : Type 0} (listeners : List L) (calls : List Call) (new : HubStage L) → calls ≡ [] → new ≡ Waiting listeners → MayOpen listeners calls new
-waits_on listeners calls new none same = record { none = none; opens = inl same }
+waits_on : {L : Type 0} (listeners : List L) → MayOpen listeners [] (Waiting listeners)
+waits_on listeners = record { none = refl; opens = inl refl }
 
 may_open : {L : Type 0} (hearing : L → Hearing) (listeners : List L) (line : Line) (said : List (List ℕ)) (calls : List Call) (new : HubStage L) → Plays hearing (Waiting listeners) line said calls new → MayOpen listeners calls new
-may_open hearing listeners blank said calls new is = waits_on listeners calls new is.calls_are is.stays
-may_open hearing listeners (comment rest) said calls new is = waits_on listeners calls new is.calls_are is.stays
-may_open hearing listeners (hest hex) said calls new is = elim is as (λ said calls new is. MayOpen listeners calls new) [
-  | NoTable bytes why decoded refuses ↦ waits_on listeners [] (Waiting listeners) refl refl
-  | NoOpening bytes n table why decoded within begins refuses ↦ waits_on listeners [] (Waiting listeners) refl refl
-  | Opened bytes n table hub decoded within begins admits opened ↦ record { none = refl; opens = inr (table, hub, opened, refl) }
-]
-may_open hearing listeners (error source hex) said calls new is = waits_on listeners calls new is.calls_are is.stays
-may_open hearing listeners (turns pairs) said calls new is = waits_on listeners calls new is.calls_are is.stays
-may_open hearing listeners (heard source) said calls new is = waits_on listeners calls new is.calls_are is.stays
-may_open hearing listeners (removal source at) said calls new is = waits_on listeners calls new is.calls_are is.stays
+may_open hearing listeners line said calls new IsBlank = waits_on listeners
+may_open hearing listeners line said calls new IsComment = waits_on listeners
+may_open hearing listeners line said calls new (NoTable bytes why decoded refuses) = waits_on listeners
+may_open hearing listeners line said calls new (NoOpening bytes n table why decoded within begins refuses) = waits_on listeners
+may_open hearing listeners line said calls new (Opened bytes n table hub decoded within begins admits opened) = record { none = refl; opens = inr (table, hub, opened, refl) }
+may_open hearing listeners line said calls new NoHubForBlock = waits_on listeners
+may_open hearing listeners line said calls new NoHubForTurns = waits_on listeners
+may_open hearing listeners line said calls new NoHubToCount = waits_on listeners
+may_open hearing listeners line said calls new NoHubToDrop = waits_on listeners
 
 by_hub : {L : Type 0} (hearing : L → Hearing) (table : List HestSource) (listeners : List L) (first : HubState L) (calls : List Call) (last : HubStage L) → IsOpened table listeners first
     → MakesCalls hearing first calls last → AreServed hearing listeners calls last

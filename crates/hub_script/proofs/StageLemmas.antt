@@ -30,7 +30,7 @@ use Rattle.hub_script.specs.Replies.{refused, reply_line, words_of_heard}
 use Rattle.hub_script.proofs.Terms.{words_of_opened, words_of_queued}
 use Rattle.script_lines.specs.Streams.{stream_of}
 use Rattle.hub_script.specs.Stages.{HubStage, Waiting, Serving, stage_in}
-use Rattle.hub_script.specs.Plays.{Plays, listed, named_at, NoTable, NoOpening, Opened, NoSource, NotTaken, Queued, NotNamed, NoneToCount, Counted, NoneToDrop, NoListener, Dropped}
+use Rattle.hub_script.specs.Plays.{Plays, listed, named_at, NoTable, NoOpening, Opened, IsOpenAlready, NoSource, NotTaken, Queued, NotNamed, NoneToCount, Counted, NoneToDrop, NoListener, Dropped}
 use Rattle.hub_script.specs.Made.{MakesReply, OpensFor, NotOpened, IsOpen}
 use Rattle.script_text.specs.Shown.{IsPartWritten}
 use Rattle.hub_script.specs.Lines.{PlaysLine, PlaysUnwritten}
@@ -112,7 +112,7 @@ module _ {X : Type 0} {H : X → Type 0} (hearing : DynBox X Global H → Hearin
   pub refused_open : (hub : Option (Hub X H)) (hex reply : List ℕ) → is_some hub ≡ true → reply ≡ reply_line (refused (words_of_refusal Open))
       → MakesReply hearing (stage_in hub listeners) (hest hex) (stage_in hub listeners) reply
   refused_open None hex reply some is = absurd (cc some)
-  refused_open (Some hub) hex reply some is = refuses hearing (Serving (seen hub)) (hest hex) (refused (words_of_refusal Open)) reply (record { said_is = refl; calls_are = refl; stays = refl }) is
+  refused_open (Some hub) hex reply some is = refuses hearing (Serving (seen hub)) (hest hex) (refused (words_of_refusal Open)) reply IsOpenAlready is
 
   pub refused_waiting : (hub : Option (Hub X H)) (line : Line) (reply : List ℕ) → hub ≡ None → asks_hub line ≡ true → reply ≡ reply_line (refused (words_of_refusal NoHub))
       → MakesReply hearing (stage_in hub listeners) line (stage_in hub listeners) reply

@@ -24,11 +24,6 @@ abbrev pub Follows : {L : Type 0} → (L → Hearing) → HubStage L → List (P
 Follows hearing first [] last = last ≡ first
 Follows hearing first (played ∷ rest) last = Plays hearing first played.line played.said played.calls played.left × Follows hearing played.left rest last
 
--- the stage behind some lines
-abbrev pub stage_behind : {L : Type 0} → HubStage L → List (Played L) → HubStage L
-stage_behind first [] = first
-stage_behind first (played ∷ rest) = stage_behind played.left rest
-
 -- all replies as they are written
 abbrev pub text_of_played : {L : Type 0} → List (Played L) → List ℕ
 text_of_played {L} lines = flat_map (λ (played : Played L). text_of_replies played.said) lines

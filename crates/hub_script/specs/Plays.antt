@@ -33,36 +33,11 @@ named_at pairs at = source_of (get_or pairs (2 * at) 0)
 unfoldable pub listed : {L : Type 0} → List L → List L
 listed members = take (2 ^ 32 - 1) members
 
--- these replies are given, and nothing is done
-pub record OnlySays {L : Type 0} (replies : List (List ℕ)) (old : HubStage L) (said : List (List ℕ)) (calls : List Call) (new : HubStage L) : Type 0 where
-  pub said_is : said ≡ replies
-  pub calls_are : calls ≡ []
-  pub stays : new ≡ old
-
--- a table, for listeners that wait: it is none, no hub is opened for it, or one is
-pub data Opens {L : Type 0} (listeners : List L) (hex : List ℕ) : List (List ℕ) → List Call → HubStage L → Type 0 where
-  NoTable : (bytes : List ℕ) (why : HestError) → decode_of hex ≡ Ok bytes → refusal bytes ≡ Some why
-      → Opens listeners hex (refused (words_of_refusal (Table why)) ∷ []) [] (Waiting listeners)
-  NoOpening : (bytes : List ℕ) (n : ℕ) (table : List HestSource) (why : HubError) → decode_of hex ≡ Ok bytes → n ≤ length bytes → IsHest table (take n bytes)
-      → hub_refusal table ≡ Some why → Opens listeners hex (refused (words_of_refusal (Hub why)) ∷ []) [] (Waiting listeners)
-  Opened : (bytes : List ℕ) (n : ℕ) (table : List HestSource) (hub : HubState L) → decode_of hex ≡ Ok bytes → n ≤ length bytes → IsHest table (take n bytes)
-      → hub_refusal table ≡ None → IsOpened table listeners hub → Opens listeners hex ((codes "hub " ++ decimal (sources_in hub)) ∷ []) [] (Serving hub)
-
--- a block for the firmware of a source
-pub data Queues {L : Type 0} (hub : HubState L) (source : ℕ) (hex : List ℕ) : List (List ℕ) → List Call → HubStage L → Type 0 where
-  NoSource : sources_in hub ≤ source → Queues hub source hex (refused (words_of_refusal Nobody) ∷ []) [] (Serving hub)
-  NotTaken : (block : List ℕ) (handover : Source) (why : SubmitError) → source < sources_in hub → decode_of hex ≡ Ok block
-      → slice_get hub.sources.list source ≡ Some handover → refusal_of handover block ≡ Some why
-      → Queues hub source hex (refused (words_of_refusal (Submit why)) ∷ []) [] (Serving hub)
-  Queued : (block : List ℕ) (handover after : Source) (new : HubState L) → source < sources_in hub → decode_of hex ≡ Ok block
-      → slice_get hub.sources.list source ≡ Some handover → refusal_of handover block ≡ None → HubSubmits source block hub new
-      → slice_get new.sources.list source ≡ Some after
-      → Queues hub source hex ((codes "queued " ++ decimal (length (waiting_of after))) ∷ []) (Submits source block ∷ []) (Serving new)
-
 -- turns one after another: the calls, their events, the replies to the blocks that were taken, and the hub afterwards
 pub data Turned {L : Type 0} (hearing : L → Hearing) (old : HubState L) : List ℕ → List Call → List Event → List (List ℕ) → HubState L → Type 0 where
   NoTurn : Turned hearing old [] [] [] [] old
-  OneMore : (pairs : List ℕ) (calls : List Call) (events : List Event) (said : List (List ℕ)) (mid : HubState L) (digit letter : ℕ) (event : Event) (new : HubState L)
+  OneMore : (pairs : List ℕ) (calls : List Call) (events : List Event) (said : List (List ℕ)) (mid : HubState L) (digit letter : ℕ)
+      (event : Event) (new : HubState L)
       → Turned hearing old pairs calls events said mid
       → HubTurns hearing (source_of digit) (side_of letter) event mid new
       → Turned hearing old (pairs ++ digit ∷ letter ∷ []) (calls ++ Turns (source_of digit) (side_of letter) event ∷ []) (events ++ event ∷ [])
@@ -72,38 +47,57 @@ pub data Turned {L : Type 0} (hearing : L → Hearing) (old : HubState L) : List
 abbrev pub AllNamed : {L : Type 0} → HubState L → List ℕ → Type 0
 AllNamed hub pairs = (at : ℕ) → 2 * at < length pairs → named_at pairs at < sources_in hub
 
--- turns, none of which is made where a pair names no source
-pub data TakesTurns {L : Type 0} (hearing : L → Hearing) (hub : HubState L) (pairs : List ℕ) : List (List ℕ) → List Call → HubStage L → Type 0 where
-  NotNamed : (at : ℕ) → 2 * at < length pairs → sources_in hub ≤ named_at pairs at
-      → TakesTurns hearing hub pairs (refused (words_of_refusal Nobody) ∷ []) [] (Serving hub)
-  AllTurned : (calls : List Call) (events : List Event) (said : List (List ℕ)) (new : HubState L) → AllNamed hub pairs → Turned hearing hub pairs calls events said new
-      → TakesTurns hearing hub pairs (said ++ words_of_turns events ∷ []) calls (Serving new)
-
--- how often the listeners of a source have heard
-pub data Counts {L : Type 0} (hearing : L → Hearing) (hub : HubState L) (source : ℕ) : List (List ℕ) → List Call → HubStage L → Type 0 where
-  NoneToCount : sources_in hub ≤ source → Counts hearing hub source (refused (words_of_refusal Nobody) ∷ []) [] (Serving hub)
-  Counted : (members : List L) → source < sources_in hub → slice_get hub.chains source ≡ Some members
-      → Counts hearing hub source (words_of_heard (counts_of hearing (listed members)) ∷ []) [] (Serving hub)
-
--- a listener of a source is dropped
-pub data Drops {L : Type 0} (hub : HubState L) (source at : ℕ) : List (List ℕ) → List Call → HubStage L → Type 0 where
-  NoneToDrop : sources_in hub ≤ source → Drops hub source at (refused (words_of_refusal Nobody) ∷ []) [] (Serving hub)
-  NoListener : (members : List L) → source < sources_in hub → slice_get hub.chains source ≡ Some members → length (listed members) ≤ at
-      → Drops hub source at (refused (words_of_refusal Nobody) ∷ []) [] (Serving hub)
-  Dropped : (members : List L) (new : HubState L) → source < sources_in hub → slice_get hub.chains source ≡ Some members → at < length (listed members)
-      → HubRemoves source at hub new → Drops hub source at ((codes "dropped " ++ decimal source ++ codes " " ++ decimal at) ∷ []) (Removes source at ∷ []) (Serving new)
-
--- what each line makes of each stage
-abbrev pub Plays : {L : Type 0} → (L → Hearing) → HubStage L → Line → List (List ℕ) → List Call → HubStage L → Type 0
-Plays hearing old blank said calls new = OnlySays [] old said calls new
-Plays hearing old (comment rest) said calls new = OnlySays [] old said calls new
-Plays hearing (Waiting listeners) (hest hex) said calls new = Opens listeners hex said calls new
-Plays hearing (Serving hub) (hest hex) said calls new = OnlySays (refused (words_of_refusal Open) ∷ []) (Serving hub) said calls new
-Plays hearing (Waiting listeners) (error source hex) said calls new = OnlySays (refused (words_of_refusal NoHub) ∷ []) (Waiting listeners) said calls new
-Plays hearing (Serving hub) (error source hex) said calls new = Queues hub source hex said calls new
-Plays hearing (Waiting listeners) (turns pairs) said calls new = OnlySays (refused (words_of_refusal NoHub) ∷ []) (Waiting listeners) said calls new
-Plays hearing (Serving hub) (turns pairs) said calls new = TakesTurns hearing hub pairs said calls new
-Plays hearing (Waiting listeners) (heard source) said calls new = OnlySays (refused (words_of_refusal NoHub) ∷ []) (Waiting listeners) said calls new
-Plays hearing (Serving hub) (heard source) said calls new = Counts hearing hub source said calls new
-Plays hearing (Waiting listeners) (removal source at) said calls new = OnlySays (refused (words_of_refusal NoHub) ∷ []) (Waiting listeners) said calls new
-Plays hearing (Serving hub) (removal source at) said calls new = Drops hub source at said calls new
+-- What a line makes of a stage. Until a hub is opened the listeners wait for a table, and what is asked of a hub is refused
+pub data Plays {L : Type 0} (hearing : L → Hearing) : HubStage L → Line → List (List ℕ) → List Call → HubStage L → Type 0 where
+  -- nothing is said, and nothing is done
+  IsBlank : {stage : HubStage L} → Plays hearing stage blank [] [] stage
+  IsComment : {stage : HubStage L} {rest : List ℕ} → Plays hearing stage (comment rest) [] [] stage
+  -- a table: it is none, no hub is opened for it, or one is; a second hub isn't opened
+  NoTable : {listeners : List L} {hex : List ℕ} (bytes : List ℕ) (why : HestError) → decode_of hex ≡ Ok bytes → refusal bytes ≡ Some why
+      → Plays hearing (Waiting listeners) (hest hex) (refused (words_of_refusal (Table why)) ∷ []) [] (Waiting listeners)
+  NoOpening : {listeners : List L} {hex : List ℕ} (bytes : List ℕ) (n : ℕ) (table : List HestSource) (why : HubError) → decode_of hex ≡ Ok bytes
+      → n ≤ length bytes → IsHest table (take n bytes) → hub_refusal table ≡ Some why
+      → Plays hearing (Waiting listeners) (hest hex) (refused (words_of_refusal (Hub why)) ∷ []) [] (Waiting listeners)
+  Opened : {listeners : List L} {hex : List ℕ} (bytes : List ℕ) (n : ℕ) (table : List HestSource) (hub : HubState L) → decode_of hex ≡ Ok bytes
+      → n ≤ length bytes → IsHest table (take n bytes) → hub_refusal table ≡ None → IsOpened table listeners hub
+      → Plays hearing (Waiting listeners) (hest hex) ((codes "hub " ++ decimal (sources_in hub)) ∷ []) [] (Serving hub)
+  IsOpenAlready : {hub : HubState L} {hex : List ℕ} → Plays hearing (Serving hub) (hest hex) (refused (words_of_refusal Open) ∷ []) [] (Serving hub)
+  -- a block for the firmware of a source
+  NoHubForBlock : {listeners : List L} {source : ℕ} {hex : List ℕ}
+      → Plays hearing (Waiting listeners) (error source hex) (refused (words_of_refusal NoHub) ∷ []) [] (Waiting listeners)
+  NoSource : {hub : HubState L} {source : ℕ} {hex : List ℕ} → sources_in hub ≤ source
+      → Plays hearing (Serving hub) (error source hex) (refused (words_of_refusal Nobody) ∷ []) [] (Serving hub)
+  NotTaken : {hub : HubState L} {source : ℕ} {hex : List ℕ} (block : List ℕ) (handover : Source) (why : SubmitError) → source < sources_in hub
+      → decode_of hex ≡ Ok block → slice_get hub.sources.list source ≡ Some handover → refusal_of handover block ≡ Some why
+      → Plays hearing (Serving hub) (error source hex) (refused (words_of_refusal (Submit why)) ∷ []) [] (Serving hub)
+  Queued : {hub : HubState L} {source : ℕ} {hex : List ℕ} (block : List ℕ) (handover after : Source) (new : HubState L) → source < sources_in hub
+      → decode_of hex ≡ Ok block → slice_get hub.sources.list source ≡ Some handover → refusal_of handover block ≡ None
+      → HubSubmits source block hub new → slice_get new.sources.list source ≡ Some after
+      → Plays hearing (Serving hub) (error source hex) ((codes "queued " ++ decimal (length (waiting_of after))) ∷ []) (Submits source block ∷ [])
+      (Serving new)
+  -- turns, none of which is made where a pair names no source
+  NoHubForTurns : {listeners : List L} {pairs : List ℕ}
+      → Plays hearing (Waiting listeners) (turns pairs) (refused (words_of_refusal NoHub) ∷ []) [] (Waiting listeners)
+  NotNamed : {hub : HubState L} {pairs : List ℕ} (at : ℕ) → 2 * at < length pairs → sources_in hub ≤ named_at pairs at
+      → Plays hearing (Serving hub) (turns pairs) (refused (words_of_refusal Nobody) ∷ []) [] (Serving hub)
+  AllTurned : {hub : HubState L} {pairs : List ℕ} (calls : List Call) (events : List Event) (said : List (List ℕ)) (new : HubState L)
+      → AllNamed hub pairs → Turned hearing hub pairs calls events said new
+      → Plays hearing (Serving hub) (turns pairs) (said ++ words_of_turns events ∷ []) calls (Serving new)
+  -- how often the listeners of a source have heard
+  NoHubToCount : {listeners : List L} {source : ℕ}
+      → Plays hearing (Waiting listeners) (heard source) (refused (words_of_refusal NoHub) ∷ []) [] (Waiting listeners)
+  NoneToCount : {hub : HubState L} {source : ℕ} → sources_in hub ≤ source
+      → Plays hearing (Serving hub) (heard source) (refused (words_of_refusal Nobody) ∷ []) [] (Serving hub)
+  Counted : {hub : HubState L} {source : ℕ} (members : List L) → source < sources_in hub → slice_get hub.chains source ≡ Some members
+      → Plays hearing (Serving hub) (heard source) (words_of_heard (counts_of hearing (listed members)) ∷ []) [] (Serving hub)
+  -- a listener of a source is dropped
+  NoHubToDrop : {listeners : List L} {source at : ℕ}
+      → Plays hearing (Waiting listeners) (removal source at) (refused (words_of_refusal NoHub) ∷ []) [] (Waiting listeners)
+  NoneToDrop : {hub : HubState L} {source at : ℕ} → sources_in hub ≤ source
+      → Plays hearing (Serving hub) (removal source at) (refused (words_of_refusal Nobody) ∷ []) [] (Serving hub)
+  NoListener : {hub : HubState L} {source at : ℕ} (members : List L) → source < sources_in hub → slice_get hub.chains source ≡ Some members
+      → length (listed members) ≤ at → Plays hearing (Serving hub) (removal source at) (refused (words_of_refusal Nobody) ∷ []) [] (Serving hub)
+  Dropped : {hub : HubState L} {source at : ℕ} (members : List L) (new : HubState L) → source < sources_in hub
+      → slice_get hub.chains source ≡ Some members → at < length (listed members) → HubRemoves source at hub new
+      → Plays hearing (Serving hub) (removal source at) ((codes "dropped " ++ decimal source ++ codes " " ++ decimal at) ∷ []) (Removes source at ∷ [])
+      (Serving new)

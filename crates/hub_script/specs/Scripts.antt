@@ -1,5 +1,5 @@
 -- What a script of several error sources leaves, by its end.
-use Rattle.std.specs.Prelude.{◌≡◌, ◌⊎◌, ℕ, List, ◌++◌}
+use Rattle.std.specs.Prelude.{◌≡◌, ℕ, List, ◌++◌, take}
 use Rattle.std.specs.List.{flat_map}
 use Rattle.apei_notify.specs.Telling.{Hearing}
 use Rattle.script_lines.specs.Ends.{fault_of}
@@ -7,24 +7,27 @@ use Rattle.script_lines.specs.Lines.{Line as TextLine}
 use Rattle.script_lines.specs.Played.{EndsBehind, PlaysByFault}
 use Rattle.hub_script.specs.HubGrammar.{Line, IsLine, hest}
 use Rattle.hub_script.specs.HubText.{IsWritten}
+use Rattle.hub_script.specs.Replies.{text_of_replies, reply_line}
 use Rattle.script_lines.specs.Streams.{Stream}
 use Rattle.hub_script.specs.Stages.{HubStage, Waiting, members_in}
-use Rattle.hub_script.specs.Lines.{IsLeft, ArePartlyWritten, PairsAreNamed, BringsTable}
-use Rattle.hub_script.specs.History.{Played, Follows, AreServed, stage_behind, text_of_played}
+use Rattle.hub_script.specs.Lines.{IsLeft, BringsTable}
+use Rattle.hub_script.specs.History.{Played, Follows, AreServed, text_of_played}
 use Rattle.script_lines.specs.declared.ending.ScriptEnd.{ScriptEnd}
 use Rattle.script_lines.specs.declared.ending.ScriptEnd.TheVariants.{Memory}
 
 -- The sink refused a reply of the line that was played last, behind some that were played whole. What was written are the replies to the lines
--- before it, of its own those before that one, and a part of that. Less than the whole line was played only of turns each of whose pairs names
--- a source
-pub record IsUnwritten {L : Type 0} (sink : Stream) (old : HubStage L) (first : List (Played L)) (text : List ℕ) (last : Played L) : Type 0 where
+-- before it, of its own those before that one, and a part of that
+pub record IsUnwritten {L : Type 0} (hearing : L → Hearing) (sink : Stream) (old : HubStage L) (first : List (Played L)) (text : List ℕ)
+    (last : Played L) : Type 0 where
   pub line : Line
   pub is : IsWritten text line
+  pub behind : HubStage L
+  pub follows : Follows hearing old first behind
   pub before : List (List ℕ)
   pub unwritten : List ℕ
-  pub left : IsLeft line last.line last.said before unwritten
-  pub named : (last.line ≡ line) ⊎ PairsAreNamed (stage_behind old first) line
-  pub wrote : sink.tells → ArePartlyWritten before unwritten (sink.before ++ text_of_played first) sink.after
+  pub left : IsLeft behind line last.line last.said before unwritten
+  pub wrote : sink.tells
+      → (n : ℕ) × (sink.after ≡ (sink.before ++ text_of_played first) ++ text_of_replies before ++ take n (reply_line unwritten))
 
 -- Lines of a script were played from a stage on, and their replies written; but where the sink failed, the last in part. Memory is taken for one line
 -- alone, that gives a table, and it was wanting only while no hub was open
@@ -34,7 +37,7 @@ pub record PlaysScript {L : Type 0} (hearing : L → Hearing) (source sink : Str
       source.before source.after lines ending
   pub played : List (Played L)
   pub follows : Follows hearing old played new
-  pub are : PlaysByFault (λ (text : List ℕ) (one : Played L). IsWritten text one.line) (IsUnwritten sink old)
+  pub are : PlaysByFault (λ (text : List ℕ) (one : Played L). IsWritten text one.line) (IsUnwritten hearing sink old)
       (λ (all : List (Played L)). sink.tells → sink.after ≡ sink.before ++ text_of_played all) lines played (fault_of ending)
   pub waits : ending ≡ Memory → (listeners : List L) × (new ≡ Waiting listeners)
 

@@ -2,7 +2,8 @@
 ghost use Rattle.std.specs.Prelude.{◌<◌};
 ghost use Rattle.ghes_ack.specs.declared.events.Side.TheVariants.{Firmware as OfFirmware};
 ghost use Rattle.ghes_ack.specs.Machine.{Machine, Filling};
-ghost use Rattle.ghes_hub.specs.Plain.{HasPlainWindows, PlainStands};
+ghost use Rattle.ghes_ack.specs.Windows.{HasAddressed};
+ghost use Rattle.ghes_hub.specs.Plain.{PlainStands};
 ghost use Rattle.ghes_ack.specs.Handovers.{over};
 ghost use Rattle.ghes_hub.specs.PlainSides.{IsSound, Stands, Turns, FindsClear, FirmwareIsAble, FirmwareTurns, firmware_at};
 ghost use Rattle.ghes_ack.specs.Sides.{state_of};
@@ -28,7 +29,7 @@ pub fn firmware_turn(
 
 /// Looks whether the block was cleared.
 fn look_for_clear(wait: MustWait, map: &PlainMap, ram: &Ram) -> (FirmwareEnd, Event)
-    requires { HasPlainWindows map.now ram.now }
+    requires { HasAddressed map.now.status map.now.window ram.now }
     ensures { FindsClear map.now ram.now result.1 result.0 }
 {
     match wait.poll_status(map, ram) {

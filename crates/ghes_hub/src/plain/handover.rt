@@ -2,7 +2,9 @@
 ghost use Rattle.std.specs.Prelude.{◌≡◌, ◌∷◌, ◌++◌, [], length, IfOk, OnOk, OnErr, MatchResult, Some, None};
 ghost use Rattle.apei_space.specs.RamState.{RamState};
 ghost use Rattle.ghes_ack.specs.Machine.{Machine, started, submitted};
-ghost use Rattle.ghes_hub.specs.Plain.{HasPlainWindows, PlainStands, plain_window, plain_started, plain_refusal};
+ghost use Rattle.ghes_ack.specs.Windows.{block_bytes, HasAddressed};
+ghost use Rattle.ghes_ack.specs.Submissions.{refusal_of};
+ghost use Rattle.ghes_hub.specs.Plain.{PlainStands, plain_started};
 ghost use Rattle.ghes_ack.specs.Handovers.{fresh, over};
 ghost use Rattle.ghes_hub.specs.PlainSides.{Turns};
 
@@ -36,9 +38,9 @@ impl Model for PlainHandover {
 impl PlainHandover {
     /// Begins a handover, with room for 66 blocks. No other call takes memory.
     pub fn new(alloc: Global, map: PlainMap, ram: &mut Ram) -> Result<PlainHandover, OutOfMemory>
-        requires { HasPlainWindows map ram.old }
+        requires { HasAddressed map.status map.window ram.old }
         ensures fresh { IfOk result (λ handover. handover ≡ fresh map) }
-        ensures stands { IfOk result (λ handover. PlainStands handover ram.new (started (plain_window map ram.old))) }
+        ensures stands { IfOk result (λ handover. PlainStands handover ram.new (started (block_bytes map.window ram.old))) }
         ensures memory { OnOk result (ram.new ≡ plain_started map ram.old) }
         ensures refused { OnErr result (ram.new ≡ ram.old) }
     {
@@ -56,8 +58,9 @@ impl PlainHandover {
         ensures number { IfOk result (λ waiting. waiting ≡ length self.new.waiting) }
         ensures stands { OnOk result ((ram : RamState) (m : Machine) → PlainStands self.old ram m
             → PlainStands self.new ram (submitted m block.now)) }
-        ensures exact { MatchResult result (λ _. plain_refusal self.old block.now ≡ None)
-            (λ error. plain_refusal self.old block.now ≡ Some error) }
+        ensures exact { MatchResult result
+            (λ _. refusal_of self.old.map.window.len block.now (length self.old.waiting) ≡ None)
+            (λ error. refusal_of self.old.map.window.len block.now (length self.old.waiting) ≡ Some error) }
         ensures refused { OnErr result (self.new ≡ self.old) }
     {
         if let Err(error) = check_block(

@@ -1,6 +1,7 @@
 // The windows of a handover without a read acknowledgement.
 ghost use Rattle.std.specs.Prelude.{◌≡◌};
-ghost use Rattle.ghes_hub.specs.Plain.{HasPlainWindows, with_plain_address, plain_started};
+ghost use Rattle.ghes_ack.specs.Windows.{HasAddressed};
+ghost use Rattle.ghes_hub.specs.Plain.{with_plain_address, plain_started};
 
 use apei_space::{Ram, Space};
 use apei_tables::{Place, Width};
@@ -25,7 +26,7 @@ impl HasWindow for PlainMap {
 impl PlainMap {
     /// Begins a handover: writes the block's address, and sets the block status to 0.
     pub fn begin(&self, ram: &mut Ram) -> (MayWrite, MustLook)
-        requires { HasPlainWindows self.now ram.old }
+        requires { HasAddressed self.now.status self.now.window ram.old }
         ensures { ram.new ≡ plain_started self.now ram.old }
     {
         self.write_address(ram);

@@ -2,7 +2,7 @@
 ghost use Rattle.std.specs.Prelude.{◌≡◌, ◌-◌, ◌*◌, ◌<◌, ◌≤◌, min, length};
 ghost use Rattle.base_model.specs.Bytes.{part, put_at};
 ghost use Rattle.ghes_ack.specs.Machine.{Reading};
-ghost use Rattle.ghes_hub.specs.Plain.{HasPlainWindows, plain_window};
+ghost use Rattle.ghes_ack.specs.Windows.{HasAddressed};
 ghost use Rattle.ghes_ack.specs.Handovers.{over};
 ghost use Rattle.ghes_hub.specs.PlainSides.{IsSound, HasFittingWork, FindsBlock, ReaderMakes, ReaderIsAble, ReaderTurns, reader_at};
 ghost use Rattle.ghes_ack.specs.Sides.{state_of};
@@ -29,7 +29,7 @@ pub fn reader_turn(
 
 /// Looks for a block, none of which is copied yet.
 fn look_for_block(look: MustLook, blocks: &mut Blocks<PlainMap>, ram: &Ram) -> (ReaderEnd, Event)
-    requires { HasPlainWindows blocks.old.map ram.now }
+    requires { HasAddressed blocks.old.map.status blocks.old.map.window ram.now }
     ensures { FindsBlock blocks.old ram.now result.1 result.0 blocks.new }
 {
     match look.poll(&blocks.map, ram) {
@@ -45,7 +45,7 @@ fn look_for_block(look: MustLook, blocks: &mut Blocks<PlainMap>, ram: &Ram) -> (
 /// work.
 fn copy_or_clear(read: MayRead, blocks: &mut Blocks<PlainMap>, ram: &mut Ram) -> (ReaderEnd, Event)
     requires sound { IsSound Reading blocks.old }
-    requires windows { HasPlainWindows blocks.old.map ram.old }
+    requires windows { HasAddressed blocks.old.map.status blocks.old.map.window ram.old }
     requires fits { HasFittingWork blocks.old }
     ensures sound { IsSound (reader_at result.0) blocks.new }
     ensures makes { ReaderMakes (state_of Reading blocks.old) ram.old result.1

@@ -7,7 +7,7 @@ use Rattle.ghes_hub.proofs.plans.plan_one.Goals as goal
 
 pub returns-in_ok-layout-in-Ghes-clause-windows : goal.returns-in_ok-layout-in-Ghes-clause-windows
 returns-in_ok-layout-in-Ghes-clause-windows c =
-    λ was. c.in_ok-layout-in-Ghes.ensures.exact.2
+    λ was. c.in_ok-layout-in-Ghes.ensures.laid.3
     ∙ ap (λ (ws : List Window). ws ++ layout_windows c.in_ok-layout-in-Ghes.layout) was
     ∙ sym (windows_push c.args.layouts.now.items c.in_ok-layout-in-Ghes.layout)
     ∙ ap all_windows (sym c.push_reserved.ensures.items)

@@ -30,7 +30,9 @@ returns g c =
     let old = c.args.self.now in
     let xs = old.chains.items in
     let here : c.args.source < length xs = (let r = c.requires.source in let one = old.one_each in omega (arith, r, one)) in
+    let removes = removes_one members_of xs c.args.source c.args.at c.index_mut.result.now c.remove.new.self here c.index_mut.ensures.value c.remove.ensures in
     record {
       sources = refl;
-      removed = removes_one members_of xs c.args.source c.args.at c.index_mut.result.now c.remove.new.self here c.index_mut.ensures.value c.remove.ensures;
+      removed = removes.removed;
+      other_chains = removes.others;
     }

@@ -16,6 +16,12 @@ returns-in_ok-write_all-in-Error-clause-played g c = rw c.in-Error.is (reply_pla
 pub returns-in_err-write_all-in-Error-clause-unwritten : goal.returns-in_err-write_all-in-Error-clause-unwritten
 returns-in_err-write_all-in-Error-clause-unwritten g c = λ fault. rw c.in-Error.is (reply_unwritten _ _ _ _ _ _ _ _ _ c.submit.ensures c.text-in-Error.ensures c.in_err-write_all-in-Error.ensures.part)
 
+pub returns-in_ok-turn-in-Turns-clause-played : goal.returns-in_ok-turn-in-Turns-clause-played
+returns-in_ok-turn-in-Turns-clause-played g c = rw c.in-Turns.is c.in_ok-turn-in-Turns.ensures.played
+
+pub returns-in_ok-tell_heard-in-Heard-clause-played : goal.returns-in_ok-tell_heard-in-Heard-clause-played
+returns-in_ok-tell_heard-in-Heard-clause-played g c = rw c.in-Heard.is c.in_ok-tell_heard-in-Heard.ensures.played
+
 pub returns-in_ok-write_all-in-Drop-clause-played : goal.returns-in_ok-write_all-in-Drop-clause-played
 returns-in_ok-write_all-in-Drop-clause-played g c = rw c.in-Drop.is (reply_played _ _ _ _ _ _ _ _ _ c.remove.ensures c.text-in-Drop.ensures c.in_ok-write_all-in-Drop.ensures.all)
 
