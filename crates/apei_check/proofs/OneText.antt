@@ -7,7 +7,7 @@ use Rattle.apei_check.specs.Shown.{lines_text}
 use Rattle.apei_check.specs.declared.text.show.Show.{Show}
 use Rattle.apei_check.specs.Tables.{AreErstLines, AreHestLines, AreBertLines}
 use Rattle.apei_check.specs.Frames.{AreRecordLines, AreBlockLines}
-use Rattle.apei_check.specs.Texts.{ShowsBytes, AreShownBy, IsTextOf, IsTextOfAll}
+use Rattle.apei_check.specs.Texts.{Stands, AreShownBy, IsTextOf, IsTextOfAll}
 use Rattle.apei_check.proofs.OneItem.{one_erst, one_hest, one_bert, one_framed_record, one_status_block}
 
 -- bytes have one list of lines
@@ -19,9 +19,9 @@ same_bytes a b e = cc e
 
 -- digits stand for one list of bytes
 one_shown : (Are : Show → List ℕ → List (List ℕ) → Type 0) → IsOne Are → (show : Show) (hex : List ℕ) (lines others : List (List ℕ))
-    → ShowsBytes (Are show) hex lines → ShowsBytes (Are show) hex others → lines ≡ others
+    → Stands (λ bytes. Are show bytes lines) hex → Stands (λ bytes. Are show bytes others) hex → lines ≡ others
 one_shown Are one show hex lines others a b =
-    one show a.bytes lines others a.are (subst (λ (bytes : List ℕ). Are show bytes others) (same_bytes b.bytes a.bytes (sym b.decoded ∙ a.decoded)) b.are)
+    one show a.bytes lines others a.is (subst (λ (bytes : List ℕ). Are show bytes others) (same_bytes b.bytes a.bytes (sym b.decoded ∙ a.decoded)) b.is)
 
 module _ (one_line : (a b : CheckedLine) → IsValidCheck a → IsValidCheck b → check_text_of a ≡ check_text_of b → a ≡ b) where
   one_list : (show : Show) (asked : CheckedLine) (lines others : List (List ℕ)) → AreShownBy show asked lines → AreShownBy show asked others → lines ≡ others

@@ -2,7 +2,7 @@
 use Rattle.std.proofs.Common.{◌≡◌, ℕ, ◌⊎◌, List, [], ◌∷◌, ◌++◌, refl, sym, subst}
 use Rattle.base_model.specs.Faults.{Rose}
 use Rattle.script_lines.specs.Columns.{BreaksAt}
-use Rattle.script_text.specs.CheckGrammar.{IsCheckLine}
+use Rattle.script_text.specs.CheckGrammar.{CheckedLine, IsCheckLine}
 use Rattle.script_text.specs.CheckText.{IsCheckText, IsCheckWritten, checked_line_of}
 use Rattle.script_text.specs.declared.check_line.CheckLine.{CheckLine}
 use Rattle.script_lines.specs.Lines.{Line, Reading, lines_of, IsNextLine}
@@ -15,17 +15,21 @@ use Rattle.script_lines.specs.declared.ending.ScriptEnd.{ScriptEnd}
 use Rattle.apei_check.specs.Shown.{Shows, ShowsPart}
 use Rattle.apei_check.specs.declared.text.show.Show.{Show}
 use Rattle.apei_check.specs.Texts.{AreShownBy, TakesMemory}
-use Rattle.apei_check.specs.Checks.{ChecksScript, MayWantMemory, WritesAll, WritesByEnd}
+use Rattle.apei_check.specs.Checks.{ChecksScript, WritesByEnd}
 use Rattle.script_lines.specs.declared.ending.ScriptEnd.TheVariants.{Done, BadLine, SourceFault, SinkFault, TooLong, Memory}
 use Rattle.script_lines.proofs.PlayedLemmas.{IsBadFrom, is_line, is_bad, stops_at, ends_behind, ends_none as lines_end, is_done as lines_done}
 use Rattle.apei_check.proofs.TextLemmas.{writes_next, writes_part}
 use Rattle.apei_check.proofs.GrammarLemmas.{is_read}
 
+-- a text gives a table for which memory is taken
+abbrev MayWantMemory : List ℕ → Type 0
+MayWantMemory text = (asked : CheckedLine) × IsCheckWritten text asked × TakesMemory asked
+
 -- the lines that were read, and what was written of them
 pub record SoFar (told_source told_sink : Type 0) (show : Show) (script rest written written_now : List ℕ) (reading : Reading) : Type 0 where
   pub lines : List Line
   pub read : HasRead told_source script rest lines reading
-  pub writes : WritesAll told_sink show lines written written_now
+  pub writes : WritesByEnd told_sink show lines written written_now Done
 
 module _ (told_source told_sink : Type 0) (show : Show) (script rest rest_now written middle : List ℕ) (a b : Reading) (so_far : SoFar told_source told_sink show script rest written middle a)
     (text : List ℕ) (line : CheckLine) (next : IsNextLine told_source a b rest rest_now) (same : text ≡ b.line) (is : IsCheckText text line) where
@@ -62,16 +66,16 @@ module _ (told_source told_sink : Type 0) (show : Show) (script rest rest_now wr
       → ChecksScript (stream_of told_source script rest_now) (stream_of told_sink written now) show Memory
   ends_memory now stands takes left =
       let read = is_read text line is in
-      let wants : MayWantMemory text = record { asked = read.asked; written = read.written; takes = read.takes takes } in
+      let wants : MayWantMemory text = (read.asked, read.written, read.takes takes) in
       record {
         lines = so_far.lines;
         ends = λ told. (b.number, stops_at (IsLineOf MayWantMemory) script so_far.lines (last_line b) b.number b.number refl (stands told) (is_line MayWantMemory told_source a b rest rest_now text next same wants));
-        writes = subst (WritesAll told_sink show so_far.lines written) (sym left) so_far.writes;
+        writes = subst (λ (now : List ℕ). WritesByEnd told_sink show so_far.lines written now Done) (sym left) so_far.writes;
       }
 
 -- where there is no next line, what was written is the whole of what the lines show
 writes_by : (told_source told_sink : Type 0) (show : Show) (rest rest_now written now : List ℕ) (a b : Reading) (lines : List Line) (ending : ScriptEnd) → EndsReading told_source a b rest rest_now ending
-    → WritesAll told_sink show lines written now → WritesByEnd told_sink show lines written now ending
+    → WritesByEnd told_sink show lines written now Done → WritesByEnd told_sink show lines written now ending
 writes_by told_source told_sink show rest rest_now written now a b lines Done end writes = writes
 writes_by told_source told_sink show rest rest_now written now a b lines (BadLine number column) end writes = writes
 writes_by told_source told_sink show rest rest_now written now a b lines SourceFault end writes = writes

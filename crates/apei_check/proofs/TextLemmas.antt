@@ -8,7 +8,8 @@ use Rattle.script_lines.specs.Played.{IsLineOf}
 use Rattle.script_text.specs.CheckGrammar.{CheckedLine}
 use Rattle.script_text.specs.CheckText.{IsCheckWritten}
 use Rattle.apei_check.specs.Texts.{AreShownBy, IsTextOf, IsTextOfAll}
-use Rattle.apei_check.specs.Checks.{WritesAll, WritesUpTo}
+use Rattle.script_lines.specs.declared.ending.ScriptEnd.TheVariants.{Done, SinkFault}
+use Rattle.apei_check.specs.Checks.{WritesByEnd}
 
 -- nothing was shown
 pub shows_none : (told : Type 0) (written : List ℕ) → Shows told (λ shown. shown ≡ []) written written
@@ -21,28 +22,28 @@ push show [] line text last all is = (last, [], is, refl, ap (λ (bs : List ℕ)
 push show (first ∷ lines) line text last all is =
     (all.0, all.1 ++ last, all.2, push show lines line all.1 last all.3 is, ap (λ (bs : List ℕ). bs ++ last) all.4 ∙ append_assoc all.0 all.1 last)
 
-pub writes_none : (told : Type 0) (show : Show) (written : List ℕ) → WritesAll told show [] written written
-writes_none told show written = record { text = []; is = refl; wrote = λ t. sym (append-nil written) }
+pub writes_none : (told : Type 0) (show : Show) (written : List ℕ) → WritesByEnd told show [] written written Done
+writes_none told show written = ([], refl, λ t. sym (append-nil written))
 
-pub writes_next : (told : Type 0) (show : Show) (lines : List Line) (line : Line) (asked : CheckedLine) (written middle now : List ℕ) → WritesAll told show lines written middle
-    → IsLineOf (λ written. IsCheckWritten written asked) line → Shows told (AreShownBy show asked) middle now → WritesAll told show (lines ++ line ∷ []) written now
-writes_next told show lines line asked written middle now before is shows = record {
-  text = before.text ++ lines_text shows.lines;
-  is = push show lines line before.text (lines_text shows.lines) before.is (record { asked = asked; is = is; shown = shows.lines; are = shows.are; text_is = refl });
-  wrote = λ t. shows.text t ∙ ap (λ (bs : List ℕ). bs ++ lines_text shows.lines) (before.wrote t) ∙ append_assoc written before.text (lines_text shows.lines);
-}
+pub writes_next : (told : Type 0) (show : Show) (lines : List Line) (line : Line) (asked : CheckedLine) (written middle now : List ℕ) → WritesByEnd told show lines written middle Done
+    → IsLineOf (λ written. IsCheckWritten written asked) line → Shows told (AreShownBy show asked) middle now → WritesByEnd told show (lines ++ line ∷ []) written now Done
+writes_next told show lines line asked written middle now before is shows = (
+  before.0 ++ lines_text shows.lines,
+  push show lines line before.0 (lines_text shows.lines) before.1 (record { asked = asked; is = is; shown = shows.lines; are = shows.are; text_is = refl }),
+  λ t. shows.text t ∙ ap (λ (bs : List ℕ). bs ++ lines_text shows.lines) (before.2 t) ∙ append_assoc written before.0 (lines_text shows.lines),
+)
 
 -- one more in part
-pub writes_part : (told : Type 0) (show : Show) (lines : List Line) (line : Line) (asked : CheckedLine) (written middle now : List ℕ) → WritesAll told show lines written middle
-    → IsLineOf (λ written. IsCheckWritten written asked) line → ShowsPart told (AreShownBy show asked) middle now → WritesUpTo told show (lines ++ line ∷ []) written now
-writes_part told show lines line asked written middle now before is shows = record {
-  first = lines;
-  last = line;
-  lines_are = refl;
-  text = before.text;
-  is = before.is;
-  last_text = lines_text shows.lines;
-  last_is = record { asked = asked; is = is; shown = shows.lines; are = shows.are; text_is = refl };
-  count = shows.count;
-  wrote = λ t. shows.text t ∙ ap (λ (bs : List ℕ). bs ++ take shows.count (lines_text shows.lines)) (before.wrote t);
-}
+pub writes_part : (told : Type 0) (show : Show) (lines : List Line) (line : Line) (asked : CheckedLine) (written middle now : List ℕ) → WritesByEnd told show lines written middle Done
+    → IsLineOf (λ written. IsCheckWritten written asked) line → ShowsPart told (AreShownBy show asked) middle now → WritesByEnd told show (lines ++ line ∷ []) written now SinkFault
+writes_part told show lines line asked written middle now before is shows = (
+  lines,
+  line,
+  refl,
+  before.0,
+  lines_text shows.lines,
+  before.1,
+  record { asked = asked; is = is; shown = shows.lines; are = shows.are; text_is = refl },
+  shows.count,
+  λ t. shows.text t ∙ ap (λ (bs : List ℕ). bs ++ take shows.count (lines_text shows.lines)) (before.2 t),
+)

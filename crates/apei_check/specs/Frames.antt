@@ -1,8 +1,8 @@
 -- The lines of an error record (UEFI 2.8, appendix N) and of an error status block (ACPI 6.4, 18.3.2.7).
-use Rattle.std.specs.Prelude.{◌≡◌, ℕ, ◌-◌, ◌^◌, ◌⊎◌, List, ◌++◌, length, map, codes, decimal, Err}
-use Rattle.std.specs.List.{enumerate_from}
+use Rattle.std.specs.Prelude.{◌≡◌, ℕ, ◌-◌, ◌^◌, ◌⊎◌, List, ◌++◌, length, codes, decimal, Err}
 use Rattle.apei_bytes.specs.Guid.{guid_text}
 use Rattle.apei_check.specs.Items.{ItemShown, ItemRefused}
+use Rattle.apei_check.specs.Shown.{numbered_lines}
 use Rattle.apei_check.specs.declared.text.show.Show.{Show}
 use Rattle.cper_frame.specs.Grammar.{SectionValue, RecordValue, IsRecord}
 use Rattle.cper_frame.specs.Reading.{checked as checked_record}
@@ -21,10 +21,6 @@ section_line index section =
     ++ codes " bytes " ++ decimal (length section.body)
     ++ codes " severity " ++ decimal section.head.severity
 
--- a line for each section, which are counted from 0
-unfoldable pub section_lines : List SectionValue → List (List ℕ)
-section_lines sections = map (λ part. section_line part.0 part.1) (enumerate_from 0 sections)
-
 -- a record of so many bytes, with so many bytes behind it
 unfoldable pub record_line : RecordValue → ℕ → ℕ → List ℕ
 record_line value size rest =
@@ -42,10 +38,6 @@ entry_line index entry =
     ++ codes " bytes " ++ decimal (length entry.body)
     ++ codes " severity " ++ decimal entry.head.severity
 
--- a line for each entry, which are counted from 0
-unfoldable pub entry_lines : List EntryValue → List (List ℕ)
-entry_lines entries = map (λ part. entry_line part.0 part.1) (enumerate_from 0 entries)
-
 -- a block, with so many bytes behind it
 unfoldable pub block_line : BlockValue → ℕ → List ℕ
 block_line value rest =
@@ -59,11 +51,11 @@ block_line value rest =
 -- what a check of a record shows
 abbrev pub AreRecordLines : Show → List ℕ → List (List ℕ) → Type 0
 AreRecordLines show bytes lines =
-    ItemShown {X = RecordValue} IsRecord record_line (λ value. section_lines value.sections) show bytes lines
+    ItemShown {X = RecordValue} IsRecord record_line (λ value. numbered_lines section_line value.sections) show bytes lines
     ⊎ ItemRefused {E = FrameError} (λ found error. checked_record (2 ^ 32 - 1) found ≡ Err error) (codes "bad record ") words_of_frame bytes lines
 
 -- what a check of a block shows
 abbrev pub AreBlockLines : Show → List ℕ → List (List ℕ) → Type 0
 AreBlockLines show bytes lines =
-    ItemShown {X = BlockValue} IsBlock (λ value size rest. block_line value rest) (λ value. entry_lines value.entries) show bytes lines
+    ItemShown {X = BlockValue} IsBlock (λ value size rest. block_line value rest) (λ value. numbered_lines entry_line value.entries) show bytes lines
     ⊎ ItemRefused {E = BlockError} (λ found error. checked_block found ≡ Err error) (codes "bad block ") words_of_block bytes lines

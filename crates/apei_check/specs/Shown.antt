@@ -1,5 +1,6 @@
 -- Which lines of an item are shown.
-use Rattle.std.specs.Prelude.{◌≡◌, ℕ, Bool, ◌==◌, List, [], ◌∷◌, ◌++◌, take, codes, if◌then◌else◌, Result, Ok, Err}
+use Rattle.std.specs.Prelude.{◌≡◌, ℕ, Bool, ◌==◌, List, [], ◌∷◌, ◌++◌, take, map, codes, if◌then◌else◌, Result, Ok, Err}
+use Rattle.std.specs.List.{enumerate_from}
 use Rattle.base_model.specs.Faults.{Rose}
 use Rattle.std.specs.Int.RustNames.{bit_and}
 use Rattle.apei_check.specs.declared.text.show.Show.{Show}
@@ -19,6 +20,10 @@ shows_parts show = bit_and show.0 2 == 2
 -- the lines of an item: the one on the whole, and those on its parts
 abbrev pub lines_shown : Show → List ℕ → List (List ℕ) → List (List ℕ)
 lines_shown show head parts = (if shows_head show then head ∷ [] else []) ++ (if shows_parts show then parts else [])
+
+-- a line for each part, which are counted from 0
+abbrev pub numbered_lines : {X : Type 0} → (ℕ → X → List ℕ) → List X → List (List ℕ)
+numbered_lines line parts = map (λ part. line part.0 part.1) (enumerate_from 0 parts)
 
 -- a newline behind each line
 unfoldable pub lines_text : List (List ℕ) → List ℕ

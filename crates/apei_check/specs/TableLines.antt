@@ -1,6 +1,5 @@
 -- The lines of tables: labels, and numbers in decimal digits.
-use Rattle.std.specs.Prelude.{ℕ, List, ◌++◌, map, codes, decimal}
-use Rattle.std.specs.List.{enumerate_from}
+use Rattle.std.specs.Prelude.{ℕ, List, ◌++◌, codes, decimal}
 use Rattle.erst_entries.specs.declared.entries.Entry.{Entry}
 use Rattle.hest_sources.specs.declared.sources.HestSource.{HestSource}
 use Rattle.hest_sources.specs.declared.sources.HestSource.TheVariants.{Ghes as Generic, Other}
@@ -25,29 +24,19 @@ entry_line index entry =
     ++ codes " value " ++ decimal entry.value
     ++ codes " mask " ++ decimal entry.mask
 
--- a line for each entry, which are counted from 0
-abbrev pub entry_lines : List Entry → List (List ℕ)
-entry_lines entries = map (λ part. entry_line part.0 part.1) (enumerate_from 0 entries)
-
 -- a Hardware Error Source Table of so many bytes and sources, and the bytes behind it
 abbrev pub hest_line : ℕ → ℕ → ℕ → List ℕ
 hest_line len sources rest = codes "hest " ++ decimal len ++ codes " sources " ++ decimal sources ++ codes " rest " ++ decimal rest
 
-abbrev pub kind_line : ℕ → ℕ → List ℕ
-kind_line index kind = codes "source " ++ decimal index ++ codes " kind " ++ decimal kind
-
 -- of a generic source more is shown than its type
 abbrev pub source_line : ℕ → HestSource → List ℕ
 source_line index (Generic source) =
-    kind_line index (type_of source.ack)
+    codes "source " ++ decimal index
+    ++ codes " kind " ++ decimal (type_of source.ack)
     ++ codes " id " ++ decimal source.id
     ++ codes " enabled " ++ decimal source.enabled
     ++ codes " block " ++ decimal source.block_len
-source_line index (Other kind at len) = kind_line index kind
-
--- a line for each source, which are counted from 0
-abbrev pub source_lines : List HestSource → List (List ℕ)
-source_lines sources = map (λ part. source_line part.0 part.1) (enumerate_from 0 sources)
+source_line index (Other kind at len) = codes "source " ++ decimal index ++ codes " kind " ++ decimal kind
 
 -- a Boot Error Record Table of so many bytes, the region that it names, and the bytes behind it
 abbrev pub bert_line : ℕ → Bert → ℕ → List ℕ

@@ -12,27 +12,21 @@ use Rattle.apei_check.specs.declared.text.show.Show.{Show}
 use Rattle.apei_check.specs.Tables.{AreErstLines, AreHestLines, AreBertLines}
 use Rattle.apei_check.specs.Frames.{AreRecordLines, AreBlockLines}
 
--- digits stand for bytes that show these lines
-pub record ShowsBytes (Are : List ℕ → List (List ℕ) → Type 0) (hex : List ℕ) (shown : List (List ℕ)) : Type 0 where
-  pub bytes : List ℕ
-  pub decoded : decode_of hex ≡ Ok bytes
-  pub are : Are bytes shown
-
--- the lines that a line of a script shows
-abbrev pub AreShownBy : Show → CheckedLine → List (List ℕ) → Type 0
-AreShownBy show blank shown = shown ≡ []
-AreShownBy show (comment rest) shown = shown ≡ []
-AreShownBy show (erst hex) shown = ShowsBytes (AreErstLines show) hex shown
-AreShownBy show (hest hex) shown = ShowsBytes (AreHestLines show) hex shown
-AreShownBy show (bert hex) shown = ShowsBytes (AreBertLines show) hex shown
-AreShownBy show (one_record hex) shown = ShowsBytes (AreRecordLines show) hex shown
-AreShownBy show (block hex) shown = ShowsBytes (AreBlockLines show) hex shown
-
 -- digits stand for bytes that this is so of
 pub record Stands (Is : List ℕ → Type 0) (hex : List ℕ) : Type 0 where
   pub bytes : List ℕ
   pub decoded : decode_of hex ≡ Ok bytes
   pub is : Is bytes
+
+-- the lines that a line of a script shows
+abbrev pub AreShownBy : Show → CheckedLine → List (List ℕ) → Type 0
+AreShownBy show blank shown = shown ≡ []
+AreShownBy show (comment rest) shown = shown ≡ []
+AreShownBy show (erst hex) shown = Stands (λ bytes. AreErstLines show bytes shown) hex
+AreShownBy show (hest hex) shown = Stands (λ bytes. AreHestLines show bytes shown) hex
+AreShownBy show (bert hex) shown = Stands (λ bytes. AreBertLines show bytes shown) hex
+AreShownBy show (one_record hex) shown = Stands (λ bytes. AreRecordLines show bytes shown) hex
+AreShownBy show (block hex) shown = Stands (λ bytes. AreBlockLines show bytes shown) hex
 
 -- memory is taken for the parts of these tables alone, where bytes begin with one
 abbrev pub TakesMemory : CheckedLine → Type 0

@@ -1,5 +1,5 @@
 -- Commands that are generated and played, one after another.
-use Rattle.std.proofs.Common.{◌≡◌, ◌∙◌, ℕ, zero, suc, ◌+◌, Option, Some, None, Result, Ok, Err, Bool, true, false, List, [], ◌∷◌, ◌++◌, length, map, cond, refl, sym, ap, subst, arith, length-append}
+use Rattle.std.proofs.Common.{◌≡◌, ◌∙◌, ℕ, zero, suc, ◌+◌, Option, Some, None, Result, Ok, Err, Bool, true, false, List, [], ◌∷◌, ◌++◌, length, cond, refl, sym, ap, subst, arith, length-append}
 use Rattle.std.specs.Prelude.{codes, count_by, is_err}
 use Rattle.std.specs.Result.{result_unwrap_or}
 use Rattle.std.proofs.lemmas.List.{map-append, append-nil}
@@ -17,7 +17,7 @@ use Rattle.apei_cli.specs.Orders.{batch_of}
 use Rattle.apei_cli.specs.declared.generate.command.Command.{Command}
 use Rattle.apei_cli.specs.declared.generate.command.Command.TheVariants.{Write, Clear, Read, Next}
 use Rattle.apei_cli.specs.declared.generate.tally.Tally.{Tally}
-use Rattle.apei_cli.specs.Commands.{number_behind, numbers_behind, drawn_of, command_of, line_for, generated_lines}
+use Rattle.apei_cli.specs.Commands.{number_behind, drawn_of, command_of, line_for, generated_lines}
 use Rattle.apei_cli.specs.Tallies.{counted_kind, counted_refusal, counted_with}
 use Rattle.apei_cli.specs.Generated.{begins, tally_of, IsRefusedIf, PlaysCommands}
 use Rattle.apei_cli.specs.Summaries.{TellsLive, Counted, Refused, WritesText, summary_of, IsGenerated}
@@ -33,12 +33,9 @@ number_after-suc : (x n : ℕ) → number_after x (suc n) ≡ number_behind (num
 number_after-suc x zero = refl
 number_after-suc x (suc n) = number_after-suc (number_behind x) n
 
-numbers-push : (x n : ℕ) → numbers_behind x (suc n) ≡ numbers_behind x n ++ number_after x (suc n) ∷ []
-numbers-push x zero = refl
-numbers-push x (suc n) = ap (λ (xs : List ℕ). number_behind x ∷ xs) (numbers-push (number_behind x) n)
-
 lines-push : (seed n : ℕ) → generated_lines seed (suc n) ≡ generated_lines seed n ++ line_at (number_after seed (suc n)) ∷ []
-lines-push seed n = ap (map line_at) (numbers-push seed n) ∙ map-append line_at (numbers_behind seed n) (number_after seed (suc n) ∷ [])
+lines-push seed zero = refl
+lines-push seed (suc n) = ap (λ (lines : List Line). line_at (number_behind seed) ∷ lines) (lines-push (number_behind seed) n)
 
 AreOwnLines-push : (some : List Played) (one : Played) → AreOwnLines some → IsOwnLine one.line → AreOwnLines (some ++ one ∷ [])
 AreOwnLines-push [] one before is = (is, tt)

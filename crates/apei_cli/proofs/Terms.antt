@@ -17,6 +17,7 @@ use Rattle.apei_cli.specs.declared.job.Job.{Job}
 use Rattle.apei_cli.specs.declared.job.Plan.{Plan}
 use Rattle.apei_cli.specs.declared.setting.Setting.{Setting}
 use Rattle.apei_cli.specs.declared.status.Status.{Status}
+use Rattle.apei_cli.specs.declared.status.Status.TheVariants.{Done, BadLine, TooLong, Memory}
 
 -- the command line
 abbrev pub job_rule : Rule
@@ -40,6 +41,14 @@ start_of order flash listeners = record { order = order; flash = flash; listener
 
 abbrev pub outcome_of : {L : Type 0} → Status → FlashState → List L → Outcome L
 outcome_of status flash listeners = record { status = status; flash = flash; listeners = listeners }
+
+-- a run that ends by itself: the script was read to its end, there was no memory, or one of its lines stopped it
+abbrev pub EndsByItself : Status → Type 0
+EndsByItself Done = Unit {0}
+EndsByItself (BadLine line column) = Unit {0}
+EndsByItself (TooLong line) = Unit {0}
+EndsByItself Memory = Unit {0}
+EndsByItself status = ⊥
 
 -- a text gives a table, or is a line in whose restart the flash failed
 abbrev pub GivesTable : List ℕ → Type 0

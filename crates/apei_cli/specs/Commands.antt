@@ -1,5 +1,5 @@
 -- The commands that a seed generates, and the lines of a script that they stand for.
-use Rattle.std.specs.Prelude.{ℕ, zero, suc, ◌+◌, ◌*◌, ◌^◌, ◌≤◌, ◌/◌, ◌%◌, ◌==◌, nat_lt, if◌then◌else◌, List, [], ◌∷◌, map}
+use Rattle.std.specs.Prelude.{ℕ, zero, suc, ◌+◌, ◌*◌, ◌^◌, ◌≤◌, ◌/◌, ◌%◌, ◌==◌, nat_lt, if◌then◌else◌, List, [], ◌∷◌}
 use Rattle.hex.specs.Hex.{encode_lower}
 use Rattle.script_text.specs.ScriptGrammar.{Line, write, read, clear, next}
 use Rattle.apei_cli.specs.declared.generate.command.Command.{Command}
@@ -9,11 +9,6 @@ use Rattle.apei_cli.specs.Records.{record_of}
 -- a linear congruential sequence modulo 2 ^ 64, with Knuth's multiplier of MMIX
 abbrev pub number_behind : ℕ → ℕ
 number_behind x = (x * 6364136223846793005 + 1442695040888963407) % 2 ^ 64
-
--- so many numbers behind one
-abbrev pub numbers_behind : ℕ → ℕ → List ℕ
-numbers_behind x zero = []
-numbers_behind x (suc n) = number_behind x ∷ numbers_behind (number_behind x) n
 
 -- the high bits of a number, of which a command is made
 abbrev pub drawn_of : ℕ → ℕ
@@ -40,6 +35,7 @@ line_for (Clear id) = clear id
 line_for (Read id) = read id
 line_for Next = next
 
--- the lines that a seed generates
+-- the lines that a seed generates: one of each number behind it
 abbrev pub generated_lines : ℕ → ℕ → List Line
-generated_lines seed count = map (λ (x : ℕ). line_for (command_of (drawn_of x))) (numbers_behind seed count)
+generated_lines seed zero = []
+generated_lines seed (suc n) = line_for (command_of (drawn_of (number_behind seed))) ∷ generated_lines (number_behind seed) n

@@ -34,10 +34,6 @@ abbrev pub IsGivenOr : ℕ → ℕ → Option Text → ℕ → Type 0
 IsGivenOr default most None n = n ≡ default
 IsGivenOr default most (Some text) n = IsNumberUpTo most text n
 
--- the greatest number
-abbrev pub greatest : ℕ
-greatest = 2 ^ 64 - 1
-
 -- the path of the image, which is not empty, and which the job `play` has to be given
 abbrev pub IsImage : Job → Option Text → Option (String Global) → Type 0
 IsImage job None None = is Play job ≡ false
@@ -60,16 +56,16 @@ pub record IsPlanIn (rows : List Row) (plan : Plan) : Type 0 where
   pub job : option_and_then job_of (first_of (codes "job") rows) ≡ Some plan.job
   pub own : AllPass (λ (setting : Setting). not (is_some (given setting rows)) || belongs setting plan.job) settings
   pub image : IsImage plan.job (given Image rows) plan.image
-  pub sector : IsGivenOr 4096 greatest (given Sector rows) plan.sector
-  pub per_slot : IsGivenOr 2 greatest (given PerSlot rows) plan.per_slot
-  pub slots : IsGivenOr 32 greatest (given Slots rows) plan.slots
+  pub sector : IsGivenOr 4096 (2 ^ 64 - 1) (given Sector rows) plan.sector
+  pub per_slot : IsGivenOr 2 (2 ^ 64 - 1) (given PerSlot rows) plan.per_slot
+  pub slots : IsGivenOr 32 (2 ^ 64 - 1) (given Slots rows) plan.slots
   pub steps : IsGiven 4294967295 (given Steps rows) plan.steps
-  pub cut : IsGiven greatest (given Cut rows) plan.cut
-  pub fail : IsGiven greatest (given Fail rows) plan.fail
-  pub fail_read : IsGiven greatest (given FailRead rows) plan.fail_read
+  pub cut : IsGiven (2 ^ 64 - 1) (given Cut rows) plan.cut
+  pub fail : IsGiven (2 ^ 64 - 1) (given Fail rows) plan.fail
+  pub fail_read : IsGiven (2 ^ 64 - 1) (given FailRead rows) plan.fail_read
   pub torn : IsGivenOr 0 3 (given Torn rows) plan.torn
   pub count : IsCount plan.job (given Count rows) plan.count
-  pub seed : IsGivenOr 0 greatest (given Seed rows) plan.seed
+  pub seed : IsGivenOr 0 (2 ^ 64 - 1) (given Seed rows) plan.seed
   pub show : IsShow (given TheShow rows) plan.show
 
 -- clap's rule takes the words for the command, and the plan is what it then reads of them

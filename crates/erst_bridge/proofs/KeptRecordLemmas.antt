@@ -1,6 +1,7 @@
 -- What the write of a record makes of the records.
-use Rattle.std.proofs.Common.{◌≡◌, ◌≢◌, inl, inr, ◌⊎◌, ◌∙◌, ℕ, ◌^◌, ◌<◌, nat_eq, cond, Bool, true, false, List, Some, None, Result, Ok, refl, sym, ap, subst, arith}
+use Rattle.std.proofs.Common.{◌≡◌, ◌≢◌, inl, inr, ◌⊎◌, ◌∙◌, ℕ, ◌^◌, ◌<◌, nat_eq, cond, Bool, true, false, List, [], ◌∷◌, Option, Some, None, Result, Ok, refl, sym, ap, subst, arith}
 use Rattle.std.specs.Prelude.{is_none, if◌then◌else◌}
+use Rattle.std.specs.Option.{option_map}
 use Rattle.std.specs.Ordering.{nat_cmp, eq_by_cmp}
 use Rattle.std.specs.FinMap.{get, insert, get-insert}
 use Rattle.std.specs.Cmp.{nat_cmp_total}
@@ -21,7 +22,7 @@ use Rattle.erst_commands.specs.OwnPrograms.{with_range}
 use Rattle.erst_bridge.specs.BridgedRecord.{bridged}
 use Rattle.erst_bridge.proofs.RecordLemmas.{name}
 use Rattle.erst_bridge.specs.Shown.{stored_record, after_write, IsStoredAs}
-use Rattle.erst_bridge.specs.Prefixes.{Contents, bytes_only, bytes_in, with_block}
+use Rattle.erst_bridge.specs.Prefixes.{bytes_in, with_blocks}
 
 -- what one record more makes of what an identifier has
 get_put : (stored : Records) (n : ℕ) (record_now : List ℕ × ℕ) (q : ℕ) → get (insert stored n record_now) q ≡ (if nat_eq q n then Some record_now else get stored q)
@@ -88,14 +89,22 @@ answer_stores block n budget old left new fits answered =
     ) in
     subst (λ (q : ℕ). IsStoredAs q bytes (records_of new)) (name block n fits) (answer_put (IsStoredAs k bytes) (bridged block n) budget old (Ok tt) left new answered refl put)
 
+-- what each identifier has
+abbrev pub Contents : Type 0
+Contents = ℕ → Option (List ℕ)
+
+-- with the record of one block more
+abbrev pub with_block : ℕ → List ℕ → Contents → Contents
+with_block id block contents = with_blocks id (block ∷ []) contents
+
 -- records whose bytes are some contents
 abbrev pub HasBytes : Contents → Records → Type 0
 HasBytes contents stored = (q : ℕ) → bytes_in stored q ≡ contents q
 
 put_bytes : (stored : Records) (n : ℕ) (record_now : List ℕ × ℕ) (q : ℕ) → bytes_in (insert stored n record_now) q ≡ (if nat_eq q n then Some record_now.0 else bytes_in stored q)
-put_bytes stored n record_now q = ap bytes_only (get_put stored n record_now q) ∙ choice (nat_eq q n)
+put_bytes stored n record_now q = ap (option_map (λ (held : List ℕ × ℕ). held.0)) (get_put stored n record_now q) ∙ choice (nat_eq q n)
   where
-    choice : (b : Bool) → bytes_only (if b then Some record_now else get stored q) ≡ (if b then Some record_now.0 else bytes_only (get stored q))
+    choice : (b : Bool) → option_map (λ (held : List ℕ × ℕ). held.0) (if b then Some record_now else get stored q) ≡ (if b then Some record_now.0 else bytes_in stored q)
     choice true = refl
     choice false = refl
 

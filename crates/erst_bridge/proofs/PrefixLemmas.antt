@@ -22,12 +22,12 @@ use Rattle.erst_bridge.proofs.TurnLemmas.{reader_cases}
 use Rattle.erst_bridge.specs.Turns.{last_of, BridgesMachine, Turn, OfFirmware, OfBridge, Step, IsTurn, AreTurns}
 use Rattle.erst_bridge.specs.Shown.{stored_record, after_write, after_turn, ShowsTurns}
 use Rattle.erst_bridge.specs.MachinesInStep.{StandsInStep}
-use Rattle.erst_bridge.specs.Prefixes.{Contents, bytes_in, with_block, with_blocks, next_id, to_come, HasPrefix}
+use Rattle.erst_bridge.specs.Prefixes.{bytes_in, with_blocks, next_id, to_come, HasPrefix}
 use Rattle.erst_bridge.proofs.TrailLemmas.{turn_keeps, own_on}
 use Rattle.erst_bridge.proofs.HandoverLemmas.{SameToCome, firmware_come, reader_come}
 use Rattle.erst_bridge.proofs.MachinesInStepLemmas.{handover_after, turn_in_step}
 use Rattle.erst_bridge.proofs.CrashLemmas.{own_write, turn_records}
-use Rattle.erst_bridge.proofs.KeptRecordLemmas.{HasBytes, answer_bytes, write_either}
+use Rattle.erst_bridge.proofs.KeptRecordLemmas.{Contents, with_block, HasBytes, answer_bytes, write_either}
 use Rattle.erst_bridge.proofs.ShownLemmas.{one_of, turns_show}
 
 -- the records are some contents; while a block is held they may have its record already, by a write that failed at its end

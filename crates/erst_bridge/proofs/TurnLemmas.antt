@@ -5,7 +5,7 @@ use Rattle.ghes_ack.specs.declared.events.Event.TheVariants.{Idle, Fill, Publish
 use Rattle.erst_bridge.specs.declared.events.BridgeEvent.{BridgeEvent}
 use Rattle.erst_bridge.specs.declared.stages.BridgeStage.{BridgeStage}
 use Rattle.erst_bridge.specs.declared.stages.BridgeStage.TheVariants.{Closed, Awaiting, Holding, Releasing}
-use Rattle.erst_bridge.specs.Bridges.{BridgeState, Off, Awaits, Holds, Releases, state_of, HoldsNone, after_reader, StationRules, Asker, outcome_of, Bridges, TurnsReader, Stores, Keeps, RunsOut}
+use Rattle.erst_bridge.specs.Bridges.{BridgeState, Off, Awaits, Holds, Releases, state_of, HoldsNone, after_reader, StationRules, Asker, Bridges, TurnsReader, Stores, Keeps, RunsOut}
 
 -- a bridge that is on and not holding holds none
 pub holds_none : (stage : BridgeStage) (id : ℕ) (bytes : List ℕ) → (stage ≡ Holding → ⊥) → (state_of stage id bytes ≡ Off → ⊥) → HoldsNone id (state_of stage id bytes)
@@ -38,12 +38,12 @@ is_on id (Releases n) none = λ e. absurd (cc e)
 module _ {S W : Type 0} (rules : StationRules S W) (asker : Asker) (old : S) where
   -- the same turn, of bridges that are the same
   pub as_seen : (from bridge : BridgeState) (event : BridgeEvent) (to next : BridgeState) (left : ℕ) (new : S) → from ≡ bridge → to ≡ next
-      → Bridges rules asker old from event (outcome_of to left new) → Bridges rules asker old bridge event (outcome_of next left new)
+      → Bridges rules asker old from event (record { bridge = to; left = left; station = new }) → Bridges rules asker old bridge event (record { bridge = next; left = left; station = new })
   as_seen from bridge event to next left new is leads turn =
-      subst (λ (b : BridgeState). Bridges rules asker old b event (outcome_of next left new)) is
-      (subst (λ (b : BridgeState). Bridges rules asker old from event (outcome_of b left new)) leads turn)
+      subst (λ (b : BridgeState). Bridges rules asker old b event (record { bridge = next; left = left; station = new })) is
+      (subst (λ (b : BridgeState). Bridges rules asker old from event (record { bridge = b; left = left; station = new })) leads turn)
 
-  pub stays_on : (bridge : BridgeState) (event : BridgeEvent) (next : BridgeState) (left : ℕ) (new : S) → Bridges rules asker old bridge event (outcome_of next left new) → next ≡ Off → ⊥
+  pub stays_on : (bridge : BridgeState) (event : BridgeEvent) (next : BridgeState) (left : ℕ) (new : S) → Bridges rules asker old bridge event (record { bridge = next; left = left; station = new }) → next ≡ Off → ⊥
   stays_on bridge event next left new turn = elim turn as (λ bridge event after turn. after.bridge ≡ Off → ⊥) [
     | TurnsReader id bridge event new none read ↦ reader_cases (λ b. b ≡ Off → ⊥) event id (rules.last new) bridge (λ e. absurd (cc e)) (λ e. absurd (cc e)) (is_on id bridge none)
     | Stores id block left new small writes ↦ λ e. absurd (cc e)

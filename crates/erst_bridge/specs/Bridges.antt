@@ -83,18 +83,16 @@ pub record Outcome (S : Type 0) : Type 0 where
   pub left : ℕ
   pub station : S
 
-abbrev pub outcome_of : {S : Type 0} → BridgeState → ℕ → S → Outcome S
-outcome_of bridge left station = record { bridge = bridge; left = left; station = station }
-
 -- A turn of a bridge: what it was, its event, and what it leaves. While a block is held the reader makes no turn; the identifier 2^64 - 1 is
 -- none
 pub data Bridges {S W : Type 0} (rules : StationRules S W) (asker : Asker) (old : S) : BridgeState → BridgeEvent → Outcome S → Type 0 where
   TurnsReader : (id : ℕ) (bridge : BridgeState) (event : Event) (new : S) → HoldsNone id bridge → rules.reads old event new
-      → Bridges rules asker old bridge (Line event) (outcome_of (after_reader event id (rules.last new) bridge) asker.steps new)
+      → Bridges rules asker old bridge (Line event) (record { bridge = after_reader event id (rules.last new) bridge; left = asker.steps; station = new })
   Stores : (id : ℕ) (block : List ℕ) (left : ℕ) (new : S) → id < 2 ^ 64 - 1
       → Writes rules.allows asker.client (bridged block id) asker.steps (rules.state old) (Ok tt) left (rules.state new)
-      → Bridges rules asker old (Holds id block) (Stored id) (outcome_of (Releases (id + 1)) left new)
+      → Bridges rules asker old (Holds id block) (Stored id) (record { bridge = Releases (id + 1); left = left; station = new })
   Keeps : (id : ℕ) (block : List ℕ) (error : ClientError) (left : ℕ) (new : S) → id < 2 ^ 64 - 1
       → Writes rules.allows asker.client (bridged block id) asker.steps (rules.state old) (Err error) left (rules.state new)
-      → Bridges rules asker old (Holds id block) (Kept error) (outcome_of (Holds id block) left new)
-  RunsOut : (id : ℕ) (block : List ℕ) → id ≡ 2 ^ 64 - 1 → Bridges rules asker old (Holds id block) Out (outcome_of (Holds id block) asker.steps old)
+      → Bridges rules asker old (Holds id block) (Kept error) (record { bridge = Holds id block; left = left; station = new })
+  RunsOut : (id : ℕ) (block : List ℕ) → id ≡ 2 ^ 64 - 1
+      → Bridges rules asker old (Holds id block) Out (record { bridge = Holds id block; left = asker.steps; station = old })

@@ -1,31 +1,22 @@
 -- The blocks that the turns of a bridge may store, and the records with some first of them.
-use Rattle.std.specs.Prelude.{◌≡◌, ℕ, ◌+◌, ◌==◌, if◌then◌else◌, List, [], ◌∷◌, take, drop, Option, Some, None}
+use Rattle.std.specs.Prelude.{◌≡◌, ℕ, ◌+◌, ◌==◌, if◌then◌else◌, List, [], ◌∷◌, take, drop, Option, Some}
+use Rattle.std.specs.Option.{option_map}
 use Rattle.std.specs.FinMap.{get}
 use Rattle.record_model.specs.Records.{Stored}
 use Rattle.ghes_ack.specs.Machine.{Machine}
 use Rattle.erst_bridge.specs.Bridges.{BridgeState, Off, Awaits, Holds, Releases}
 use Rattle.erst_bridge.specs.Shown.{stored_record}
 
--- the bytes of a record without its generation: a record that is written again, since its write failed at its end, has the next one
-abbrev pub bytes_only : Option (List ℕ × ℕ) → Option (List ℕ)
-bytes_only None = None
-bytes_only (Some record_and_generation) = Some record_and_generation.0
+-- the bytes that each identifier has, without their generation: a record that is written again, since its write failed at its end, has the
+-- next one
+abbrev pub bytes_in : Stored → ℕ → Option (List ℕ)
+bytes_in stored id = option_map (λ (held : List ℕ × ℕ). held.0) (get stored id)
 
--- what each identifier has
-abbrev pub Contents : Type 0
-Contents = ℕ → Option (List ℕ)
-
-abbrev pub bytes_in : Stored → Contents
-bytes_in stored id = bytes_only (get stored id)
-
--- with the record of one block more
-abbrev pub with_block : ℕ → List ℕ → Contents → Contents
-with_block id block contents other = if other == id then Some (stored_record block id) else contents other
-
--- and of several, under identifiers one after another
-abbrev pub with_blocks : ℕ → List (List ℕ) → Contents → Contents
+-- with the records of some blocks more, under identifiers one after another
+abbrev pub with_blocks : ℕ → List (List ℕ) → (ℕ → Option (List ℕ)) → ℕ → Option (List ℕ)
 with_blocks id [] contents = contents
-with_blocks id (block ∷ blocks) contents = with_blocks (id + 1) blocks (with_block id block contents)
+with_blocks id (block ∷ blocks) contents =
+    with_blocks (id + 1) blocks (λ (other : ℕ). if other == id then Some (stored_record block id) else contents other)
 
 -- the identifier of the next block that is stored
 abbrev pub next_id : BridgeState → ℕ
@@ -42,6 +33,6 @@ to_come (Holds id block) m = block ∷ drop m.taken m.blocks
 to_come (Releases id) m = drop m.taken m.blocks
 
 -- the records are these contents, with those of the first so many blocks to come
-pub record HasPrefix (bridge : BridgeState) (m : Machine) (contents : Contents) (shown : Stored) : Type 0 where
+pub record HasPrefix (bridge : BridgeState) (m : Machine) (contents : ℕ → Option (List ℕ)) (shown : Stored) : Type 0 where
   pub count : ℕ
   pub same : (id : ℕ) → bytes_in shown id ≡ with_blocks (next_id bridge) (take count (to_come bridge m)) contents id

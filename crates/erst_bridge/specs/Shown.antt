@@ -8,7 +8,7 @@ use Rattle.erst_client.specs.Commands.{write_refusal}
 use Rattle.erst_machine.specs.MachineState.{MachineState, reach_in, records_of}
 use Rattle.erst_machine.specs.Shown.{changes_of}
 use Rattle.erst_commands.specs.Writes.{id_of, marked}
-use Rattle.erst_bridge.specs.declared.events.BridgeEvent.TheVariants.{Line, Stored, Kept, Out}
+use Rattle.erst_bridge.specs.declared.events.BridgeEvent.TheVariants.{Line, Out}
 use Rattle.erst_bridge.specs.BridgedRecord.{bridged}
 use Rattle.erst_bridge.specs.Bridges.{BridgeState, Off, Awaits, Holds, Releases}
 use Rattle.erst_bridge.specs.Turns.{Turn, OfFirmware, OfBridge, Step}
@@ -23,20 +23,13 @@ after_write state bytes =
     if is_none (write_refusal bytes (reach_in state.device)) then after state.device.store.layout (Write (id_of bytes) (marked bytes)) (records_of state)
     else records_of state
 
--- as the write of a held block's record leaves them
-abbrev pub after_held : MachineState → BridgeState → Records
-after_held state Off = records_of state
-after_held state (Awaits id) = records_of state
-after_held state (Holds id block) = after_write state (bridged block id)
-after_held state (Releases id) = records_of state
-
--- as a turn leaves them: one that was answered `Stored` or `Kept` is a write
+-- as a turn leaves them: one that was answered `Stored` or `Kept` is a write of the held block's record
 abbrev pub after_turn : BridgeState → MachineState → Turn → Records
 after_turn bridge state (OfFirmware event) = records_of state
 after_turn bridge state (OfBridge (Line event)) = records_of state
-after_turn bridge state (OfBridge (Stored id)) = after_held state bridge
-after_turn bridge state (OfBridge (Kept error)) = after_held state bridge
 after_turn bridge state (OfBridge Out) = records_of state
+after_turn (Holds id block) state (OfBridge event) = after_write state (bridged block id)
+after_turn bridge state (OfBridge event) = records_of state
 
 -- power lost at step s shows the records after the turns that had ended by s, or as the next one leaves them where nothing fails
 abbrev pub ShowsTurns : ℕ → BridgeState → MachineState → List Step → Records → Type 0

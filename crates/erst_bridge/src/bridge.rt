@@ -2,7 +2,7 @@
 ghost use Rattle.std.specs.Prelude.{◌≡◌, ◌≢◌, ◌≤◌, ◌<◌, ◌↔◌, ◌-◌, ◌^◌, ℕ, List, length, take, drop, IfOk, IsTrue};
 ghost use Rattle.erst_bridge.specs.BridgedRecord.{bridged};
 ghost use Rattle.erst_bridge.specs.declared.stages.BridgeStage.TheVariants.{Holding as IsHolding};
-ghost use Rattle.erst_bridge.specs.Bridges.{Off, Awaits, Holds, station_rules, asker_of, outcome_of, Bridges, state_of, HasRecord, after_reader, after_offer, IsStored};
+ghost use Rattle.erst_bridge.specs.Bridges.{Off, Awaits, Holds, station_rules, asker_of, Bridges, state_of, HasRecord, after_reader, after_offer, IsStored};
 ghost use Rattle.erst_bridge.specs.Causes.{OfEvent};
 
 use crate::events::BridgeEvent;
@@ -89,7 +89,7 @@ impl Bridge {
     ) -> BridgeEvent
         requires { self.old ≢ Off }
         ensures bridges { Bridges (station_rules S.state S.allows S.reads S.last) (asker_of client.old budget.old)
-            station.old self.old result (outcome_of self.new budget.new station.new) }
+            station.old self.old result (record { bridge = self.new; left = budget.new; station = station.new }) }
         ensures on { self.new ≢ Off }
         ensures client { client.new ≡ client.old }
         // A fault of the device is the reason of `Kept` only where the space's count of faults rose.
@@ -156,7 +156,7 @@ fn offer<S: Station>(
     requires { 0 < id }
     ensures bridges { (block : List ℕ) → bytes.now ≡ bridged block id
         → Bridges (station_rules S.state S.allows S.reads S.last) (asker_of client.old budget.old)
-        station.old (Holds id block) result (outcome_of (after_offer result id block) budget.new station.new) }
+        station.old (Holds id block) result (record { bridge = after_offer result id block; left = budget.new; station = station.new }) }
     ensures client { client.new ≡ client.old }
     ensures cause { OfEvent (S.faults (S.state station.old)) (S.faults (S.state station.new)) result }
 {

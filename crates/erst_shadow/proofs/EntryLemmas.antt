@@ -23,7 +23,8 @@ use Rattle.erst_interp.specs.Accesses.{FieldRead, Store}
 use Rattle.erst_interp.specs.Steps.{Step, blocks}
 use Rattle.erst_interp.specs.Runs.{task_of}
 use Rattle.erst_interp.proofs.StraightLemmas.{whole_of, got_of, refused_of}
-use Rattle.erst_shadow.specs.MoveEntries.{MoveRegister, address_of, region_of, no_region, plain_entry, put_number, use_register}
+use Rattle.erst_machine.specs.OwnTables.{register_of}
+use Rattle.erst_shadow.specs.MoveEntries.{MoveRegister, address_of, plain_entry, put_number, use_register}
 use Rattle.erst_shadow.specs.MoveSpaces.{ServesMove}
 use Rattle.erst_interp.proofs.StepLemmas.{same_register, StepBy, step_by}
 
@@ -72,35 +73,35 @@ abbrev pub of_var2 : Taken
 of_var2 = record { code = 0x06; instruction = LoadVar2; has_code = refl; taken = λ n c. record c { var2 = n }; works = λ task. refl }
 
 module _ {W : Type 0} (allows : W → Call → W → Type 0) (fits : W → Type 0) (from target count : ℕ) (space : ServesMove allows fits from target count) where
-  pub reads_number : (r : MoveRegister) (register : Register) (old new : W) (x known : ℕ) → checked (region_of r) ≡ Ok register → FieldRead allows register (2 ^ 64 - 1) old (Ok x) new → fits old → space.value r old ≡ known → known < 2 ^ 64
+  pub reads_number : (r : MoveRegister) (register : Register) (old new : W) (x known : ℕ) → checked (register_of 64 4 (address_of r)) ≡ Ok register → FieldRead allows register (2 ^ 64 - 1) old (Ok x) new → fits old → space.value r old ≡ known → known < 2 ^ 64
       → (x ≡ known) × (new ≡ old)
   reads_number r register old new x known region read fit value_is small =
-      let is : register ≡ register_at r = same_register (register_at r) register (checked (region_of r)) refl region in
+      let is : register ≡ register_at r = same_register (register_at r) register (checked (register_of 64 4 (address_of r))) refl region in
       let got = got_of allows (register_at r) (2 ^ 64 - 1) old (Ok x) new x (subst (λ (reg : Register). FieldRead allows reg (2 ^ 64 - 1) old (Ok x) new) is read) refl in
       let reads = space.reads old new r (Ok got.0) fit got.1.1 in
       let number : got.0 ≡ known = same_number got.0 (space.value r old) reads.0 ∙ value_is in
       (got.1.0 ∙ ap (λ (n : ℕ). field n 0 (2 ^ 64 - 1)) number ∙ field_whole known small, reads.1)
 
-  pub reads_always : (r : MoveRegister) (register : Register) (old new : W) (fault : SpaceFault) → checked (region_of r) ≡ Ok register → FieldRead allows register (2 ^ 64 - 1) old (Err fault) new → fits old → ⊥
+  pub reads_always : (r : MoveRegister) (register : Register) (old new : W) (fault : SpaceFault) → checked (register_of 64 4 (address_of r)) ≡ Ok register → FieldRead allows register (2 ^ 64 - 1) old (Err fault) new → fits old → ⊥
   reads_always r register old new fault region read fit =
-      let is : register ≡ register_at r = same_register (register_at r) register (checked (region_of r)) refl region in
+      let is : register ≡ register_at r = same_register (register_at r) register (checked (register_of 64 4 (address_of r))) refl region in
       let refused = refused_of allows (register_at r) (2 ^ 64 - 1) old (Err fault) new fault (subst (λ (reg : Register). FieldRead allows reg (2 ^ 64 - 1) old (Err fault) new) is read) refl in
       no_fault (space.value r old) fault (space.reads old new r (Err fault) fit refused).0
 
-  pub writes_number : (r : MoveRegister) (register : Register) (action : Action) (code value number : ℕ) (old new : W) → checked (region_of r) ≡ Ok register
-      → Store allows register (plain_entry action code (region_of r) value (2 ^ 64 - 1)) number old (Ok tt) new → fits old → number < 2 ^ 64 → new ≡ space.put r number old
+  pub writes_number : (r : MoveRegister) (register : Register) (action : Action) (code value number : ℕ) (old new : W) → checked (register_of 64 4 (address_of r)) ≡ Ok register
+      → Store allows register (plain_entry action code (register_of 64 4 (address_of r)) value (2 ^ 64 - 1)) number old (Ok tt) new → fits old → number < 2 ^ 64 → new ≡ space.put r number old
   writes_number r register action code value number old new region store fit small =
-      let is : register ≡ register_at r = same_register (register_at r) register (checked (region_of r)) refl region in
-      let wrote = whole_of allows (register_at r) (plain_entry action code (region_of r) value (2 ^ 64 - 1)) number old (Ok tt) new
-      (subst (λ (reg : Register). Store allows reg (plain_entry action code (region_of r) value (2 ^ 64 - 1)) number old (Ok tt) new) is store) refl in
+      let is : register ≡ register_at r = same_register (register_at r) register (checked (register_of 64 4 (address_of r))) refl region in
+      let wrote = whole_of allows (register_at r) (plain_entry action code (register_of 64 4 (address_of r)) value (2 ^ 64 - 1)) number old (Ok tt) new
+      (subst (λ (reg : Register). Store allows reg (plain_entry action code (register_of 64 4 (address_of r)) value (2 ^ 64 - 1)) number old (Ok tt) new) is store) refl in
       (space.writes old new r (stored number 0 (2 ^ 64 - 1)) (Ok tt) fit wrote).1 ∙ ap (λ (n : ℕ). space.put r n old) (stored_whole number small)
 
-  pub writes_always : (r : MoveRegister) (register : Register) (action : Action) (code value number : ℕ) (old new : W) (fault : SpaceFault) → checked (region_of r) ≡ Ok register
-      → Store allows register (plain_entry action code (region_of r) value (2 ^ 64 - 1)) number old (Err fault) new → fits old → ⊥
+  pub writes_always : (r : MoveRegister) (register : Register) (action : Action) (code value number : ℕ) (old new : W) (fault : SpaceFault) → checked (register_of 64 4 (address_of r)) ≡ Ok register
+      → Store allows register (plain_entry action code (register_of 64 4 (address_of r)) value (2 ^ 64 - 1)) number old (Err fault) new → fits old → ⊥
   writes_always r register action code value number old new fault region store fit =
-      let is : register ≡ register_at r = same_register (register_at r) register (checked (region_of r)) refl region in
-      let wrote = whole_of allows (register_at r) (plain_entry action code (region_of r) value (2 ^ 64 - 1)) number old (Err fault) new
-      (subst (λ (reg : Register). Store allows reg (plain_entry action code (region_of r) value (2 ^ 64 - 1)) number old (Err fault) new) is store) refl in
+      let is : register ≡ register_at r = same_register (register_at r) register (checked (register_of 64 4 (address_of r))) refl region in
+      let wrote = whole_of allows (register_at r) (plain_entry action code (register_of 64 4 (address_of r)) value (2 ^ 64 - 1)) number old (Err fault) new
+      (subst (λ (reg : Register). Store allows reg (plain_entry action code (register_of 64 4 (address_of r)) value (2 ^ 64 - 1)) number old (Err fault) new) is store) refl in
       no_fault tt fault (space.writes old new r (stored number 0 (2 ^ 64 - 1)) (Err fault) fit wrote).0
 
   -- Each kind of entry, in any program
@@ -128,22 +129,22 @@ module _ {W : Type 0} (allows : W → Call → W → Type 0) (fits : W → Type 
         let read = reads_number r did.0 old new did.1 known did.4 did.5 fit value_is small in
         record { goes = did.2 ∙ ap (λ (n : ℕ). into.taken n (next c)) read.0; only = did.3; left = read.1 }
 
-    pub adds_both : (entry : Entry) (c : Configuration) (old : W) (d : Configuration) (more : ℕ) (new : W) → plain_entry action 0x08 no_region 0 0 ≡ entry
+    pub adds_both : (entry : Entry) (c : Configuration) (old : W) (d : Configuration) (more : ℕ) (new : W) → plain_entry action 0x08 (register_of 0 0 0) 0 0 ≡ entry
         → Step allows (task_of program given entry c) old d more new → HasDone d more new (record (next c) { var1 = (c.var1 + c.var2) % 2 ^ 64 }) 0 old
     adds_both entry c old d more new is step =
-        let did = step_by allows (task_of program given (plain_entry action 0x08 no_region 0 0) c) Add refl old d more new (subst (λ (e : Entry). Step allows (task_of program given e c) old d more new) (sym is) step) in
+        let did = step_by allows (task_of program given (plain_entry action 0x08 (register_of 0 0 0) 0 0) c) Add refl old d more new (subst (λ (e : Entry). Step allows (task_of program given e c) old d more new) (sym is) step) in
         record { goes = did.0; only = did.1; left = did.2 }
 
-    pub goes_to : (to : ℕ) (entry : Entry) (c : Configuration) (old : W) (d : Configuration) (more : ℕ) (new : W) → plain_entry action 0x0F no_region to 0 ≡ entry
+    pub goes_to : (to : ℕ) (entry : Entry) (c : Configuration) (old : W) (d : Configuration) (more : ℕ) (new : W) → plain_entry action 0x0F (register_of 0 0 0) to 0 ≡ entry
         → Step allows (task_of program given entry c) old d more new → HasDone d more new (record (next c) { place = to }) 0 old
     goes_to to entry c old d more new is step =
-        let did = step_by allows (task_of program given (plain_entry action 0x0F no_region to 0) c) Goto refl old d more new (subst (λ (e : Entry). Step allows (task_of program given e c) old d more new) (sym is) step) in
+        let did = step_by allows (task_of program given (plain_entry action 0x0F (register_of 0 0 0) to 0) c) Goto refl old d more new (subst (λ (e : Entry). Step allows (task_of program given e c) old d more new) (sym is) step) in
         record { goes = did.0; only = did.1; left = did.2 }
 
-    pub skips_or_goes : (r : MoveRegister) (size known : ℕ) (entry : Entry) (c : Configuration) (old : W) (d : Configuration) (more : ℕ) (new : W) → plain_entry action 0x0E (region_of r) size (2 ^ 64 - 1) ≡ entry → space.value r old ≡ known
+    pub skips_or_goes : (r : MoveRegister) (size known : ℕ) (entry : Entry) (c : Configuration) (old : W) (d : Configuration) (more : ℕ) (new : W) → plain_entry action 0x0E (register_of 64 4 (address_of r)) size (2 ^ 64 - 1) ≡ entry → space.value r old ≡ known
         → known < 2 ^ 64 → fits old → Step allows (task_of program given entry c) old d more new → HasDone d more new (if known == size then next (next c) else next c) 0 old
     skips_or_goes r size known entry c old d more new is value_is small fit step =
-        let did = step_by allows (task_of program given (plain_entry action 0x0E (region_of r) size (2 ^ 64 - 1)) c) SkipNextIfTrue refl old d more new (subst (λ (e : Entry). Step allows (task_of program given e c) old d more new) (sym is) step) in
+        let did = step_by allows (task_of program given (plain_entry action 0x0E (register_of 64 4 (address_of r)) size (2 ^ 64 - 1)) c) SkipNextIfTrue refl old d more new (subst (λ (e : Entry). Step allows (task_of program given e c) old d more new) (sym is) step) in
         let read = reads_number r did.0 old new did.1 known did.4 did.5 fit value_is small in
         record { goes = did.2 ∙ ap (λ (n : ℕ). if n == size then next (next c) else next c) read.0; only = did.3; left = read.1 }
 

@@ -13,7 +13,8 @@ use Rattle.erst_interp.specs.declared.stops.RunStop.TheVariants.{Budget}
 use Rattle.erst_interp.specs.Instructions.{Work}
 use Rattle.erst_interp.specs.Steps.{Halt, blocks}
 use Rattle.erst_interp.specs.Runs.{task_of}
-use Rattle.erst_shadow.specs.MoveEntries.{MoveRegister, Offset, Source, Target, Length, region_of, no_region, plain_entry, put_number, use_register, move_entries}
+use Rattle.erst_machine.specs.OwnTables.{register_of}
+use Rattle.erst_shadow.specs.MoveEntries.{MoveRegister, Offset, Source, Target, Length, plain_entry, address_of, put_number, use_register, move_entries}
 use Rattle.erst_shadow.specs.MoveSpaces.{ServesMove, AreAddressable}
 use Rattle.erst_shadow.specs.MoveRuns.{move_then, move_steps}
 use Rattle.erst_interp.proofs.StepLemmas.{IsUnpaid, IsTooLong, IsNotRead, IsNotCopied, HaltBy, halt_by}
@@ -51,23 +52,23 @@ module _ {W : Type 0} (allows : W → Call → W → Type 0) (fits : W → Type 
         (halt_by allows task into.instruction into.has_code (λ used. (register_at r, refl)) paid old stop left new (subst (λ (e : Entry). Halt allows (task_of program given e c) paid old stop left new) (sym is) halt)) in
         reads_always allows fits from target count space r why.0 old new why.1 why.2 why.3 fit
 
-    no_stop_skip : (r : MoveRegister) (size : ℕ) (entry : Entry) (c : Configuration) (paid : ℕ) (old : W) (stop : RunStop) (left : ℕ) (new : W) → plain_entry action 0x0E (region_of r) size (2 ^ 64 - 1) ≡ entry → fits old
+    no_stop_skip : (r : MoveRegister) (size : ℕ) (entry : Entry) (c : Configuration) (paid : ℕ) (old : W) (stop : RunStop) (left : ℕ) (new : W) → plain_entry action 0x0E (register_of 64 4 (address_of r)) size (2 ^ 64 - 1) ≡ entry → fits old
         → Halt allows (task_of program given entry c) paid old stop left new → ⊥
     no_stop_skip r size entry c paid old stop left new is fit halt =
-        let why = halt_by allows (task_of program given (plain_entry action 0x0E (region_of r) size (2 ^ 64 - 1)) c) SkipNextIfTrue refl (λ used. (register_at r, refl)) paid old stop left new
+        let why = halt_by allows (task_of program given (plain_entry action 0x0E (register_of 64 4 (address_of r)) size (2 ^ 64 - 1)) c) SkipNextIfTrue refl (λ used. (register_at r, refl)) paid old stop left new
         (subst (λ (e : Entry). Halt allows (task_of program given e c) paid old stop left new) (sym is) halt) in
         reads_always allows fits from target count space r why.0 old new why.1 why.2 why.3 fit
 
-    no_stop_add : (entry : Entry) (c : Configuration) (paid : ℕ) (old : W) (stop : RunStop) (left : ℕ) (new : W) → plain_entry action 0x08 no_region 0 0 ≡ entry
+    no_stop_add : (entry : Entry) (c : Configuration) (paid : ℕ) (old : W) (stop : RunStop) (left : ℕ) (new : W) → plain_entry action 0x08 (register_of 0 0 0) 0 0 ≡ entry
         → Halt allows (task_of program given entry c) paid old stop left new → ⊥
     no_stop_add entry c paid old stop left new is halt =
-        halt_by allows (task_of program given (plain_entry action 0x08 no_region 0 0) c) Add refl (λ used. absurd (cc used)) paid old stop left new
+        halt_by allows (task_of program given (plain_entry action 0x08 (register_of 0 0 0) 0 0) c) Add refl (λ used. absurd (cc used)) paid old stop left new
         (subst (λ (e : Entry). Halt allows (task_of program given e c) paid old stop left new) (sym is) halt)
 
-    no_stop_goto : (to : ℕ) (entry : Entry) (c : Configuration) (paid : ℕ) (old : W) (stop : RunStop) (left : ℕ) (new : W) → plain_entry action 0x0F no_region to 0 ≡ entry → to < length program.entries
+    no_stop_goto : (to : ℕ) (entry : Entry) (c : Configuration) (paid : ℕ) (old : W) (stop : RunStop) (left : ℕ) (new : W) → plain_entry action 0x0F (register_of 0 0 0) to 0 ≡ entry → to < length program.entries
         → Halt allows (task_of program given entry c) paid old stop left new → ⊥
     no_stop_goto to entry c paid old stop left new is within halt =
-        let beyond = halt_by allows (task_of program given (plain_entry action 0x0F no_region to 0) c) Goto refl (λ used. absurd (cc used)) paid old stop left new
+        let beyond = halt_by allows (task_of program given (plain_entry action 0x0F (register_of 0 0 0) to 0) c) Goto refl (λ used. absurd (cc used)) paid old stop left new
         (subst (λ (e : Entry). Halt allows (task_of program given e c) paid old stop left new) (sym is) halt) in
         omega (arith, beyond, within)
 

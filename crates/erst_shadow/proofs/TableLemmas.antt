@@ -13,27 +13,27 @@ use Rattle.erst_entries.specs.declared.entries.Entry.{Entry}
 use Rattle.erst_entries.specs.Layout.{Erst, IsEntry, AreEntries, entry_spelling, front_spelling, spelling, FitsErst}
 use Rattle.erst_entries.specs.Tables.{IsErst, Finished}
 use Rattle.erst_device.specs.Actions.{log_range_at}
-use Rattle.erst_machine.specs.OwnTables.{own_header, tell, told_actions}
+use Rattle.erst_machine.specs.OwnTables.{own_header, tell, told_actions, register_of}
 use Rattle.erst_machine.proofs.TableLemmas.{entry_fits, act_fits, give_fits, is_one_fits, answer_fits, tell_fits}
-use Rattle.erst_shadow.specs.MoveEntries.{MoveRegister, Offset, Source, Target, Length, region_of, no_region, put_number, use_register, move_entries}
-use Rattle.erst_shadow.specs.ShadowTables.{scratch_at, entries_before, entries_between, entries_behind, shadow_entries, shadow_count, shadow_size, table_with, shadow_checksum, shadow_erst}
+use Rattle.erst_shadow.specs.MoveEntries.{MoveRegister, Offset, Source, Target, Length, address_of, put_number, use_register, move_entries}
+use Rattle.erst_shadow.specs.ShadowTables.{scratch_at, entries_before, entries_between, entries_behind, shadow_entries, shadow_count, table_with, shadow_checksum, shadow_erst}
 
 -- Entries fit their fields
 
-none_gas : IsGas no_region
+none_gas : IsGas (register_of 0 0 0)
 none_gas = record { space = lit< tt; width = lit< tt; offset = lit< tt; access = lit< tt; address = lit< tt }
 
-move_gas : (r : MoveRegister) → IsGas (region_of r)
+move_gas : (r : MoveRegister) → IsGas (register_of 64 4 (address_of r))
 move_gas Offset = record { space = lit< tt; width = lit< tt; offset = lit< tt; access = lit< tt; address = lit< tt }
 move_gas Source = record { space = lit< tt; width = lit< tt; offset = lit< tt; access = lit< tt; address = lit< tt }
 move_gas Target = record { space = lit< tt; width = lit< tt; offset = lit< tt; access = lit< tt; address = lit< tt }
 move_gas Length = record { space = lit< tt; width = lit< tt; offset = lit< tt; access = lit< tt; address = lit< tt }
 
 number_fits : (action : Action) (r : MoveRegister) (value : ℕ) → value < 2 ^ 64 → IsEntry (put_number action r value)
-number_fits action r value fits = entry_fits action 3 (region_of r) value _ (lit< tt) (move_gas r) fits (lit< tt)
+number_fits action r value fits = entry_fits action 3 (register_of 64 4 (address_of r)) value _ (lit< tt) (move_gas r) fits (lit< tt)
 
 register_fits : (action : Action) (code : ℕ) (r : MoveRegister) → code < 256 → IsEntry (use_register action code r)
-register_fits action code r fits = entry_fits action code (region_of r) 0 _ fits (move_gas r) (lit< tt) (lit< tt)
+register_fits action code r fits = entry_fits action code (register_of 64 4 (address_of r)) 0 _ fits (move_gas r) (lit< tt) (lit< tt)
 
 AreEntries-append : (xs ys : List Entry) → AreEntries xs → AreEntries ys → AreEntries (xs ++ ys)
 AreEntries-append [] ys front rest = rest
@@ -42,7 +42,7 @@ AreEntries-append (x ∷ xs) ys front rest = (front.0, AreEntries-append xs ys f
 move_fits : (action : Action) (from target size : ℕ) → from < 2 ^ 64 → target < 2 ^ 64 → size < 2 ^ 64 → AreEntries (move_entries action from target size)
 unfolding move_entries
 move_fits action from target size from_fits target_fits size_fits =
-    (number_fits action Source from from_fits, (number_fits action Target target target_fits, (number_fits action Length 128 (lit< tt), (number_fits action Offset 0 (lit< tt), (register_fits action 0x10 Source (lit< tt), (register_fits action 0x11 Target (lit< tt), (register_fits action 0x06 Length (lit< tt), (register_fits action 0x12 Offset (lit< tt), (register_fits action 0x05 Offset (lit< tt), (entry_fits action 0x08 no_region 0 0 (lit< tt) none_gas (lit< tt) (lit< tt), (register_fits action 0x07 Offset (lit< tt), (entry_fits action 0x0E (region_of Offset) size _ (lit< tt) (move_gas Offset) size_fits (lit< tt), (entry_fits action 0x0F no_region 7 0 (lit< tt) none_gas (lit< tt) (lit< tt), tt)))))))))))))
+    (number_fits action Source from from_fits, (number_fits action Target target target_fits, (number_fits action Length 128 (lit< tt), (number_fits action Offset 0 (lit< tt), (register_fits action 0x10 Source (lit< tt), (register_fits action 0x11 Target (lit< tt), (register_fits action 0x06 Length (lit< tt), (register_fits action 0x12 Offset (lit< tt), (register_fits action 0x05 Offset (lit< tt), (entry_fits action 0x08 (register_of 0 0 0) 0 0 (lit< tt) none_gas (lit< tt) (lit< tt), (register_fits action 0x07 Offset (lit< tt), (entry_fits action 0x0E (register_of 64 4 (address_of Offset)) size _ (lit< tt) (move_gas Offset) size_fits (lit< tt), (entry_fits action 0x0F (register_of 0 0 0) 7 0 (lit< tt) none_gas (lit< tt) (lit< tt), tt)))))))))))))
 
 before_fit : AreEntries entries_before
 before_fit =
@@ -122,7 +122,7 @@ erst_fits pieces few = record {
   entries = entries_fit pieces few;
 }
 
-pub erst_size : (pieces checksum : ℕ) → length (spelling (table_with pieces checksum)) ≡ shadow_size
+pub erst_size : (pieces checksum : ℕ) → length (spelling (table_with pieces checksum)) ≡ 48 + 32 * shadow_count
 unfolding spelling front_spelling header_spelling entry_spelling spelled shadow_entries move_entries
 erst_size pieces checksum = refl
 
@@ -148,18 +148,18 @@ all_entries pieces = refl
 
 finished_is : (pieces : ℕ) (before after : Erst) → before ≡ blank_with (shadow_entries pieces) → Finished before after → after ≡ table_with pieces after.header.checksum
 finished_is pieces before after is finished =
-    let size : after.header.length ≡ shadow_size = finished.size ∙ ap (λ (t : Erst). 48 + 32 * length t.entries) is ∙ ap (λ (n : ℕ). 48 + 32 * n) (count_is pieces) in
+    let size : after.header.length ≡ 48 + 32 * shadow_count = finished.size ∙ ap (λ (t : Erst). 48 + 32 * length t.entries) is ∙ ap (λ (n : ℕ). 48 + 32 * n) (count_is pieces) in
     let count : after.count ≡ shadow_count = finished.counted ∙ ap (λ (t : Erst). length t.entries) is ∙ count_is pieces in
-    let header : after.header ≡ own_header (codes "ERST") shadow_size after.header.checksum =
+    let header : after.header ≡ own_header (codes "ERST") (48 + 32 * shadow_count) after.header.checksum =
     finished.header ∙ ap (λ (t : Erst). record t.header { length = after.header.length; checksum = after.header.checksum }) is ∙ ap (λ (n : ℕ). own_header (codes "ERST") n after.header.checksum) size in
     finished.others ∙ ap (λ (t : Erst). record t { header = after.header; count = after.count }) is
     ∙ ap (λ (h : Header). record { header = h; header_size = 48; reserved = 0; count = after.count; entries = shadow_entries pieces }) header
-    ∙ ap (λ (n : ℕ). record { header = own_header (codes "ERST") shadow_size after.header.checksum; header_size = 48; reserved = 0; count = n; entries = shadow_entries pieces }) count
+    ∙ ap (λ (n : ℕ). record { header = own_header (codes "ERST") (48 + 32 * shadow_count) after.header.checksum; header_size = 48; reserved = 0; count = n; entries = shadow_entries pieces }) count
 
 -- what was put together, sealed
 pub record IsShadow (pieces : ℕ) (table : Erst) : Type 0 where
   pub table_is : table ≡ shadow_erst pieces
-  pub size : length (spelling table) ≡ shadow_size
+  pub size : length (spelling table) ≡ 48 + 32 * shadow_count
   pub erst : IsErst table (spelling table)
 
 pub is_shadow : (pieces : ℕ) (before after : Erst) → before ≡ blank_with (shadow_entries pieces) → Finished before after → IsSealed (spelling after) → after.header.checksum < 256 → IsShadow pieces after

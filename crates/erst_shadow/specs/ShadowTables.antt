@@ -51,12 +51,15 @@ shadow_entries pieces =
 abbrev pub shadow_count : ℕ
 shadow_count = 50 + length (tell told_actions)
 
-abbrev pub shadow_size : ℕ
-shadow_size = 48 + 32 * shadow_count
-
 -- the table with a checksum
 abbrev pub table_with : (pieces checksum : ℕ) → Erst
-table_with pieces checksum = record { header = own_header (codes "ERST") shadow_size checksum; header_size = 48; reserved = 0; count = shadow_count; entries = shadow_entries pieces }
+table_with pieces checksum = record {
+  header = own_header (codes "ERST") (48 + 32 * shadow_count) checksum;
+  header_size = 48;
+  reserved = 0;
+  count = shadow_count;
+  entries = shadow_entries pieces;
+}
 
 -- the checksum with which the bytes add to 0
 unfoldable pub shadow_checksum : (pieces : ℕ) → ℕ

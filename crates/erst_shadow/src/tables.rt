@@ -1,8 +1,8 @@
 // The table.
-ghost use Rattle.std.specs.Prelude.{◌≡◌, ◌+◌, ◌≤◌, ◌<◌, ◌^◌, ◌++◌, ◌∷◌, [], length, IfOk, OnOk};
+ghost use Rattle.std.specs.Prelude.{◌≡◌, ◌+◌, ◌*◌, ◌≤◌, ◌<◌, ◌^◌, ◌++◌, ◌∷◌, [], length, IfOk, OnOk};
 ghost use Rattle.erst_entries.specs.Layout.{spelling, FitsErst};
 ghost use Rattle.erst_entries.specs.Tables.{IsErst};
-ghost use Rattle.erst_shadow.specs.ShadowTables.{pieces_of, shadow_erst, shadow_size};
+ghost use Rattle.erst_shadow.specs.ShadowTables.{pieces_of, shadow_count, shadow_erst};
 
 use crate::entries::{entries_before, entries_behind, entries_between, move_entries};
 use apei_bytes::OutOfMemory;
@@ -28,7 +28,7 @@ fn append(table: &mut ErstTable, entries: &[Entry]) -> Result<(), OutOfMemory>
 pub fn shadow_table(alloc: Global, reach: u32) -> Result<ErstTable, OutOfMemory>
     requires { 128 ≤ reach }
     ensures table { IfOk result (λ table. table ≡ shadow_erst (pieces_of reach)) }
-    ensures size { IfOk result (λ table. length (spelling table) ≡ shadow_size) }
+    ensures size { IfOk result (λ table. length (spelling table) ≡ 48 + 32 * shadow_count) }
     ensures erst { IfOk result (λ table. IsErst table (spelling table)) }
     ensures fits { OnOk result (FitsErst (shadow_erst (pieces_of reach))) }
 {

@@ -1,10 +1,10 @@
 // What a check of an error status block shows.
 ghost use Rattle.std.specs.Prelude.{◌≡◌, ◌≢◌, ◌≤◌, length, OnOk, OnErr, Err};
 ghost use Rattle.base_model.specs.Faults.{HasCause};
-ghost use Rattle.apei_check.specs.Shown.{Shows, ShowsPart, HasStopCause};
+ghost use Rattle.apei_check.specs.Shown.{Shows, ShowsPart, HasStopCause, numbered_lines};
 ghost use Rattle.apei_check.specs.Written.{Writes, WritesPart};
 ghost use Rattle.ghes_block.specs.Entries.{value_of, IsPlace};
-ghost use Rattle.apei_check.specs.Frames.{AreBlockLines, block_line, entry_line, entry_lines};
+ghost use Rattle.apei_check.specs.Frames.{AreBlockLines, block_line, entry_line};
 
 use crate::text::{CheckStop, Parts, Show, write_line, write_refused};
 use apei_bytes::{Sink, SinkFault};
@@ -50,8 +50,8 @@ fn block_line(block: &Block<'_>, rest: usize) -> LineText
 /// Writes the line of each entry.
 fn write_entries<O: Sink>(block: &Block<'_>, out: &mut O) -> Result<(), SinkFault>
     requires { IsPlace block.now.entries 20 }
-    ensures all { OnOk result (Writes O.tells (entry_lines block.now.entries) (O.written out.old) (O.written out.new)) }
-    ensures part { OnErr result (WritesPart O.tells (entry_lines block.now.entries) (O.written out.old)
+    ensures all { OnOk result (Writes O.tells (numbered_lines entry_line block.now.entries) (O.written out.old) (O.written out.new)) }
+    ensures part { OnErr result (WritesPart O.tells (numbered_lines entry_line block.now.entries) (O.written out.old)
         (O.written out.new)) }
     ensures cause { HasCause (O.faults out.old) (O.faults out.new) result }
 {
@@ -67,11 +67,12 @@ fn write_entries<O: Sink>(block: &Block<'_>, out: &mut O) -> Result<(), SinkFaul
 
 impl Parts for Block<'_> {
     ghost use Rattle.ghes_block.specs.Entries.{IsPlace};
-    ghost use Rattle.apei_check.specs.Frames.{entry_lines};
+    ghost use Rattle.apei_check.specs.Shown.{numbered_lines};
+    ghost use Rattle.apei_check.specs.Frames.{entry_line};
 
     ghost is_decoded = { λ block. IsPlace block.entries 20 };
 
-    ghost lines = { λ block. entry_lines block.entries };
+    ghost lines = { λ block. numbered_lines entry_line block.entries };
 
     fn write_parts<O: Sink>(&self, out: &mut O) -> Result<(), SinkFault> {
         write_entries(self, out)

@@ -45,9 +45,10 @@ fn record_line(framed: &Record<'_>, size: usize, rest: usize) -> LineText
 }
 
 impl Numbered for Record<'_> {
-    ghost use Rattle.apei_check.specs.Frames.{section_lines};
+    ghost use Rattle.apei_check.specs.Shown.{numbered_lines};
+    ghost use Rattle.apei_check.specs.Frames.{section_line};
 
-    ghost part_lines = { λ framed. section_lines framed.sections };
+    ghost part_lines = { λ framed. numbered_lines section_line framed.sections };
 
     fn count(&self) -> usize {
         usize::from(self.sections())

@@ -48,9 +48,10 @@ fn table_line(table: &ErstTable, len: usize, rest: usize) -> LineText
 }
 
 impl Numbered for ErstTable {
-    ghost use Rattle.apei_check.specs.TableLines.{entry_lines};
+    ghost use Rattle.apei_check.specs.Shown.{numbered_lines};
+    ghost use Rattle.apei_check.specs.TableLines.{entry_line};
 
-    ghost part_lines = { λ table. entry_lines table.entries };
+    ghost part_lines = { λ table. numbered_lines entry_line table.entries };
 
     fn count(&self) -> usize {
         self.len()

@@ -1,7 +1,7 @@
 // The lines of a Hardware Error Source Table.
-ghost use Rattle.std.specs.Prelude.{◌≡◌, ◌≤◌, length, Err, None, OnOk};
+ghost use Rattle.std.specs.Prelude.{◌≡◌, ◌≤◌, ◌++◌, length, codes, decimal, Err, None, OnOk};
 ghost use Rattle.apei_check.specs.Shown.{Shows, ShowsPart, HasStopCause};
-ghost use Rattle.apei_check.specs.TableLines.{hest_line, kind_line, source_line};
+ghost use Rattle.apei_check.specs.TableLines.{hest_line, source_line};
 ghost use Rattle.apei_check.specs.Tables.{AreHestLines};
 ghost use Rattle.hest_sources.specs.declared.sources.HestSource.TheVariants.{Ghes as Generic};
 ghost use Rattle.hest_sources.specs.Layout.{type_of};
@@ -50,9 +50,10 @@ fn table_line(sources: &[HestSource], len: usize, rest: usize) -> LineText
 }
 
 impl Numbered for Hest {
-    ghost use Rattle.apei_check.specs.TableLines.{source_lines};
+    ghost use Rattle.apei_check.specs.Shown.{numbered_lines};
+    ghost use Rattle.apei_check.specs.TableLines.{source_line};
 
-    ghost part_lines = { source_lines };
+    ghost part_lines = { numbered_lines source_line };
 
     fn count(&self) -> usize {
         self.sources().len()
@@ -76,7 +77,7 @@ fn source_line(index: usize, source: &HestSource) -> LineText
 
 /// The line on a source by its type alone.
 fn kind_line(index: usize, kind: u16) -> LineText
-    ensures text { result ≡ kind_line index kind }
+    ensures text { result ≡ codes "source " ++ decimal index ++ codes " kind " ++ decimal kind }
     ensures short { length result ≤ 53 }
 {
     let mut line = LineText::new();

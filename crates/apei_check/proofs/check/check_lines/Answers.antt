@@ -9,7 +9,7 @@ pub lines-init : goal.lines-init
 lines-init g c =
     let start = c.requires.start in
     record {
-      so_far = rw start (record { lines = _; read = c.lines_are_read_in_order.ensures.start _; writes = writes_none _ _ _ });
+      so_far = rw start (record { lines = _; read = c.lines_are_read_in_order.ensures.start _; writes = writes_none _ c.args.show _ });
       at_end = λ told e. let clash : true ≡ false = sym e ∙ ap (λ (r : Reading). r.at_end) start in absurd (cc clash);
       room = c.requires.room;
       source = refl;

@@ -8,4 +8,4 @@ pub returns-in-Block-clause-part : goal.returns-in-Block-clause-part
 returns-in-Block-clause-part g c failed =
     let part = c.check_block.ensures.part failed in
     rw c.in-Block.is
-    (record { lines = part.lines; are = record { bytes = _; decoded = c.decode-count-in-Block.ensures.bytes; are = part.are }; count = part.count; text = part.text })
+    (record { lines = part.lines; are = record { bytes = _; decoded = c.decode-count-in-Block.ensures.bytes; is = part.are }; count = part.count; text = part.text })

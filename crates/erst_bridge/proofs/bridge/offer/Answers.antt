@@ -1,7 +1,7 @@
 use Rattle.std.proofs.Common.{ℕ, ◌+◌, List, sym, subst, Ok, Err}
 use Rattle.erst_client.specs.Commands.{Writes}
 use Rattle.erst_bridge.specs.declared.events.BridgeEvent.TheVariants.{Stored}
-use Rattle.erst_bridge.specs.Bridges.{station_rules, asker_of, outcome_of, Bridges, Holds, Releases, Stores, Keeps, RunsOut}
+use Rattle.erst_bridge.specs.Bridges.{station_rules, asker_of, Bridges, Holds, Releases, Stores, Keeps, RunsOut}
 use Rattle.erst_bridge.proofs.IdentifierLemmas.{is_last, below_last}
 use Rattle.erst_bridge.proofs.bridge.offer.Goals as goal
 
@@ -11,7 +11,7 @@ returns-in_default-clause-bridges g c = λ block is. RunsOut c.args.id block (is
 pub returns-in-Ok-clause-bridges : goal.returns-in-Ok-clause-bridges
 returns-in-Ok-clause-bridges g c = λ block is.
     subst (λ (name : ℕ). Bridges (station_rules g.S.Space.state g.S.Space.allows g.S.Station.reads g.S.Station.last) (asker_of c.args.client.now c.args.budget.now) c.args.station.now
-    (Holds c.args.id block) (Stored name) (outcome_of (Releases (c.args.id + 1)) c.write.new.budget c.write.new.space))
+    (Holds c.args.id block) (Stored name) (record { bridge = Releases (c.args.id + 1); left = c.write.new.budget; station = c.write.new.space }))
     (sym c.in-Some.ensures.0)
     (Stores c.args.id block c.write.new.budget c.write.new.space (below_last c.args.id c.ranges.id.fits c.in-Some.ensures.1)
     (subst (λ (bytes : List ℕ). Writes g.S.Space.allows c.args.client.now bytes c.args.budget.now (g.S.Space.state c.args.station.now) (Ok tt) c.write.new.budget (g.S.Space.state c.write.new.space)) is c.in-Ok.ensures.writes))

@@ -1,7 +1,8 @@
 use Rattle.std.proofs.Common.{◌≡◌, ◌≤◌, ◌-◌, length, take}
 use Rattle.apei_check.specs.Written.{Writes}
 use Rattle.ghes_block.specs.Entries.{place_of}
-use Rattle.apei_check.specs.Frames.{entry_lines}
+use Rattle.apei_check.specs.Shown.{numbered_lines}
+use Rattle.apei_check.specs.Frames.{entry_line}
 use Rattle.apei_check.proofs.frames.block.write_entries.Given as goal
 
 -- the lines of the entries before the one at this place are written
@@ -11,7 +12,7 @@ invariant-loop-entry g l = record {
   place : l.at ≡ place_of l.block.entries l.index;
   low : l.index ≤ l.at;
   no_fault : g.O.Sink.faults l.out ≡ g.O.Sink.faults l.fn.out;
-  so_far : Writes g.O.Sink.tells (take l.index (entry_lines l.block.entries)) (g.O.Sink.written l.fn.out) (g.O.Sink.written l.out);
+  so_far : Writes g.O.Sink.tells (take l.index (numbered_lines entry_line l.block.entries)) (g.O.Sink.written l.fn.out) (g.O.Sink.written l.out);
 }
 
 abbrev pub decreases-loop-entry : goal.decreases-loop-entry
