@@ -36,7 +36,7 @@ use Rattle.script_lines.specs.Streams.{stream_of}
 use Rattle.apei_script.specs.Players.{PlayerState, budget_of}
 use Rattle.apei_script.specs.Words.{Reply, at_step, said_at, words_of_block, text_of_reply, text_of_replies, reply_at}
 use Rattle.script_text.specs.Turns.{side_of}
-use Rattle.apei_script.specs.Bridged.{words_of_turn, words_of_step, words_of_steps, words_of_made, HasTaken, block_of, blocks_in, block_replies, replies_of, ByBridge, Enters, StaysAs, BridgesTurns, TurnsShown}
+use Rattle.apei_script.specs.Bridged.{words_of_turn, words_of_steps, words_of_made, HasTaken, block_of, replies_of, ByBridge, Enters, StaysAs, BridgesTurns, TurnsShown}
 use Rattle.apei_script.specs.Plays.{Plays, Blank, ByClient, GivenTable, OwnTable, GivenShadow, OnMachine, ByTheBridge, OnlyTells, Reset, Power, Told, changes_in, LinePlayed, PlaysLine, PlaysUnwritten, LeftIn, AtLast, InBridged, stage_in, played_as}
 use Rattle.apei_script.specs.History.{ShowsLine}
 use Rattle.apei_script.specs.declared.session.Session.{Session}
@@ -68,10 +68,10 @@ line_turned tells programs told counts old line said blocks steps new plays mach
       | ByClient line words machine commanded ↦ shows_none old.bridge old.machine machine
       | GivenTable hex bytes words machine other decoded gives ↦ shows_none old.bridge old.machine machine
       | OwnTable ↦ shows_none old.bridge old.machine old.machine
-      | GivenShadow machine gives ↦ shows_none old.bridge old.machine machine
+      | GivenShadow left machine attaches attached reaches ↦ shows_none old.bridge old.machine machine
       | OnMachine line said blocks machine alone happened ↦ shows_none old.bridge old.machine machine
       | ByTheBridge line said blocks steps next machine by ↦ of_bridge line said blocks steps next machine by
-      | OnlyTells line words told ↦ shows_none old.bridge old.machine old.machine
+      | OnlyTells ↦ shows_none old.bridge old.machine old.machine
       | Reset n machine warms ↦ shows_none old.bridge old.machine machine
       | Power n machine powers ↦ shows_none old.bridge old.machine machine
     ]
@@ -83,6 +83,13 @@ line_turned tells programs told counts old line said blocks steps new plays mach
       | StaysAs id why refuses ↦ shows_none old.bridge old.machine old.machine
       | BridgesTurns letters steps next last on are sides counted ↦ turns_shown tells programs told old.own (budget_of old) old.bridge old.machine steps next last own machine are
     ]
+
+-- the blocks that turns took, and the replies to them
+abbrev pub blocks_in : List Step → List (List ℕ)
+blocks_in steps = flat_map (λ (step : Step). block_of step.turn (last_of step.machine)) steps
+
+abbrev pub block_replies : List Step → List Reply
+block_replies steps = flat_map (λ (step : Step). said_at (changes_in step.machine) (map words_of_block (block_of step.turn (last_of step.machine)))) steps
 
 -- A turn that took a block
 
@@ -153,11 +160,11 @@ again_told (OfBridge event) = refl
 words_made : (steps : List Step) → words_of_made (made_by steps) ≡ words_of_steps steps
 words_made steps = ap (λ (xs : List ℕ). codes "turns" ++ xs) (each steps)
   where
-    each : (steps : List Step) → flat_map (λ (one : MadeTurn). codes " " ++ words_of_turn (turn_of one.turn) one.step) (made_by steps) ≡ flat_map (λ (step : Step). codes " " ++ words_of_step step) steps
+    each : (steps : List Step) → flat_map (λ (one : MadeTurn). codes " " ++ words_of_turn (turn_of one.turn) one.step) (made_by steps) ≡ flat_map (λ (step : Step). codes " " ++ words_of_turn step.turn (changes_in step.machine)) steps
     each [] = refl
     each (step ∷ steps) =
         ap (λ (turn : Turn). (codes " " ++ words_of_turn turn (changes_in step.machine)) ++ flat_map (λ (one : MadeTurn). codes " " ++ words_of_turn (turn_of one.turn) one.step) (made_by steps)) (again_told step.turn)
-        ∙ ap (λ (xs : List ℕ). (codes " " ++ words_of_step step) ++ xs) (each steps)
+        ∙ ap (λ (xs : List ℕ). (codes " " ++ words_of_turn step.turn (changes_in step.machine)) ++ xs) (each steps)
 
 -- the words of turns behind others
 abbrev pub turns_behind : List MadeTurn → List ℕ

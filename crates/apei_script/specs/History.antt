@@ -16,7 +16,7 @@ use Rattle.apei_script.specs.Words.{said_at, text_of_replies}
 use Rattle.apei_script.specs.Mapped.{Mapped, after_line}
 use Rattle.apei_script.specs.ShadowMapped.{ShadowMapped}
 pub use Rattle.apei_script.specs.Plays.{Played}
-use Rattle.apei_script.specs.Plays.{LinePlayed, step_of, names_command, IsOwnLine, SaysHardware, SaysStopped, SaysLate}
+use Rattle.apei_script.specs.Plays.{LinePlayed, step_of, names_command, IsOwnLine, SaysHardware, SaysNoStop}
 
 -- how often a listener has heard of an error once it was told of so many more that it wants
 abbrev pub heard_of : ℕ → ℕ → ℕ
@@ -86,7 +86,7 @@ pub record IsMappedBy (Maps : List ℕ → Type 0) (state : PlayerState) (played
   pub said : played.said ≡ said_at (step_of played.left) (words ∷ [])
   pub mapped : Maps words
   pub cause : SaysHardware played.said → Rose state.machine.device.store.flash.faults played.left.machine.device.store.flash.faults
-  pub enough : enough_steps (client_of state).timings ≤ budget_of state → (SaysStopped played.said → ⊥) × (SaysLate played.said → ⊥)
+  pub enough : enough_steps (client_of state).timings ≤ budget_of state → SaysNoStop played.said
 
 -- by the machine's own table, and by that whose own programs move the record
 abbrev pub IsMapped : PlayerState → Played → Type 0
@@ -110,7 +110,7 @@ NoneSaysHardware state (played ∷ rest) = (UsesEither state → names_command p
 abbrev pub AllGoThrough : PlayerState → List Played → Type 0
 AllGoThrough state [] = Unit {0}
 AllGoThrough state (played ∷ rest) =
-    (UsesEither state → names_command played.line ≡ true → enough_steps (client_of state).timings ≤ budget_of state → (SaysStopped played.said → ⊥) × (SaysLate played.said → ⊥))
+    (UsesEither state → names_command played.line ≡ true → enough_steps (client_of state).timings ≤ budget_of state → SaysNoStop played.said)
     × AllGoThrough played.left rest
 
 -- before each line, and at the end, the client of one of the machine's two tables is in use
