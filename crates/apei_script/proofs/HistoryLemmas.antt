@@ -22,7 +22,8 @@ use Rattle.erst_client.specs.Commands.{ClientState}
 use Rattle.erst_shadow.specs.ShadowCommands.{shadow_client}
 use Rattle.apei_script.specs.Players.{PlayerState, UsesOwn, UsesShadow, UsesEither, GivenNoOther}
 use Rattle.apei_script.specs.Plays.{Plays, Blank, ByClient, GivenTable, OwnTable, GivenShadow, OnMachine, ByTheBridge, OnlyTells, Reset, Power, HasHappened, LinePlayed, names_command, IsOwnLine, played_as}
-use Rattle.apei_script.specs.History.{Played, heard_after, Follows, EndInOrder, ShowsLine, ShowsLines, ShowsEachLine, AreOwnLines, IsMapped, IsShadowMapped, AreMapped, NoneSaysHardware, AllGoThrough, AlwaysUsesEither}
+use Rattle.apei_script.specs.History.{Played, heard_after, Follows, EndInOrder, ShowsLines, ShowsEachLine, AreOwnLines, IsMapped, IsShadowMapped, AreMapped, NoneSaysHardware, AllGoThrough, AlwaysUsesEither}
+use Rattle.apei_script.proofs.BridgeLemmas.{ShowsLine}
 use Rattle.apei_script.proofs.EventChanges.{along}
 use Rattle.apei_script.proofs.LineLemmas.{line_divides, line_own}
 use Rattle.apei_script.proofs.SessionLines.{in_use}

@@ -31,8 +31,9 @@ use Rattle.apei_script.specs.Words.{Reply}
 use Rattle.apei_script.specs.Mapped.{after_line}
 use Rattle.apei_script.specs.Bridged.{ByBridge, Enters, StaysAs, BridgesTurns, KeepsBlocks}
 use Rattle.apei_script.specs.Plays.{Plays, ByTheBridge, LinePlayed, IsOwnLine, played_as}
-use Rattle.apei_script.specs.History.{Played, heard_after, Follows, ShowsLine, ShowsLines, AreOwnLines}
+use Rattle.apei_script.specs.History.{Played, heard_after, Follows, ShowsLines, AreOwnLines}
 use Rattle.apei_script.specs.Spares.{SpareLines, KeepsAll}
+use Rattle.apei_script.proofs.BridgeLemmas.{ShowsLine}
 use Rattle.apei_script.proofs.KeptTurns.{SpareTurns, kept_turns, blocks_kept}
 use Rattle.apei_script.proofs.LeavesLemmas.{after_write}
 use Rattle.apei_script.proofs.LineLemmas.{line_divides, line_own}

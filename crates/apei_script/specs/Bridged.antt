@@ -1,5 +1,5 @@
 -- Lines of the bridge: the one that turns it on, and turns while it is on.
-use Rattle.std.specs.Prelude.{◌≡◌, ℕ, ◌≤◌, not, if◌then◌else◌, Bool, true, false, List, [], ◌∷◌, ◌++◌, codes, decimal, map, Option, Some, None, Result, Ok, Err}
+use Rattle.std.specs.Prelude.{◌≡◌, ℕ, ◌≤◌, not, if◌then◌else◌, List, [], ◌∷◌, ◌++◌, codes, decimal, map, Option, Some, None, Ok, Err}
 use Rattle.std.specs.List.{flat_map}
 use Rattle.base_model.specs.Flash.{CrashImage, image_at}
 use Rattle.record_model.specs.Records.{is_reserved, Stored as Records}
@@ -7,11 +7,10 @@ use Rattle.ghes_ack.specs.declared.events.Event.TheVariants.{Took}
 use Rattle.ghes_ack.specs.Machine.{Machine as HandoverMachine, is_idle}
 use Rattle.erst_machine.specs.MachineState.{MachineState, records_of, told_of}
 use Rattle.erst_machine.specs.Shown.{shown_by, changes_of}
-use Rattle.erst_client.specs.declared.errors.ClientError.{ClientError}
 use Rattle.erst_commands.specs.Writes.{WriteAnswered}
 use Rattle.erst_bridge.specs.declared.events.BridgeEvent.TheVariants.{Line as ByReader, Stored, Kept, Out}
 use Rattle.erst_bridge.specs.BridgedRecord.{bridged}
-use Rattle.erst_bridge.specs.Bridges.{BridgeState, Off, Awaits, Holds, Releases}
+use Rattle.erst_bridge.specs.Bridges.{BridgeState, Off, Awaits, Holds}
 use Rattle.erst_bridge.specs.Turns.{last_of, Turn, OfFirmware, OfBridge, Step, AreTurns}
 use Rattle.erst_bridge.specs.Shown.{stored_record, ShowsTurns, IsStoredAs}
 use Rattle.erst_bridge.specs.MachinesInStep.{StandsInStep}

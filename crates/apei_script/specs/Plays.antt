@@ -31,7 +31,7 @@ use Rattle.apei_script.specs.declared.player.PlayStop.TheVariants.{SinkFault, Fl
 use Rattle.erst_shadow.specs.ShadowTables.{shadow_count, shadow_erst}
 use Rattle.erst_shadow.specs.ShadowCommands.{pieces_in, shadow_client, AttachesShadow}
 use Rattle.apei_script.specs.Players.{PlayerState, client_of, budget_of, asker_of, UsesOwn, UsesShadow, UsesEither}
-use Rattle.apei_script.specs.Words.{Reply, at_step, said_at, words_in, text_of_reply, text_of_replies, replies_at, refused, words_of_table, words_of_turns, words_of_heard}
+use Rattle.apei_script.specs.Words.{Reply, at_step, said_at, words_in, reply_at, text_of_replies, replies_at, refused, words_of_table, words_of_turns, words_of_heard}
 use Rattle.apei_script.specs.Asked.{Commanded}
 use Rattle.apei_script.specs.Tables.{ATTACH_STEPS, GivesTable}
 use Rattle.apei_script.specs.Mapped.{Mapped, after_line}
@@ -224,7 +224,7 @@ pub data LeftIn : Line → Line → List Reply → List Reply → Reply → Type
 
 -- replies were written, and of one more a part
 abbrev pub PartlyWritten : List Reply → Reply → List ℕ → List ℕ → Type 0
-PartlyWritten before last written written_now = (n : ℕ) × (written_now ≡ written ++ text_of_replies before ++ take n (text_of_reply last))
+PartlyWritten before last written written_now = (n : ℕ) × (written_now ≡ written ++ text_of_replies before ++ take n (reply_at last.step last.words))
 
 -- a line was played, or what is left of it, and its listeners told. The sink refused a reply
 pub record PlaysUnwritten {L : Type 0} (hearing : L → Hearing) (tells : Type 0) (sink : Stream) (old : Stage PlayerState L) (line : Line) (new : Stage PlayerState L) : Type 0 where

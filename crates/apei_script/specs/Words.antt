@@ -102,12 +102,9 @@ words_in said = map (λ (reply : Reply). reply.words) said
 abbrev pub reply_at : ℕ → List ℕ → List ℕ
 reply_at step words = words ++ (codes " @" ++ decimal step ++ 10 ∷ [])
 
-abbrev pub text_of_reply : Reply → List ℕ
-text_of_reply reply = reply_at reply.step reply.words
-
 -- replies one after another
 abbrev pub text_of_replies : List Reply → List ℕ
-text_of_replies said = flat_map text_of_reply said
+text_of_replies said = flat_map (λ (reply : Reply). reply_at reply.step reply.words) said
 
 abbrev pub replies_at : ℕ → List (List ℕ) → List ℕ
 replies_at step words = text_of_replies (said_at step words)
