@@ -33,12 +33,12 @@ use Rattle.erst_bridge.specs.Made.{turn_of, told_turn, side_in, sides_in, made_b
 use Rattle.erst_bridge.proofs.TurnsLemmas.{told_again, sides_more, made_more, counted_more, turns_more}
 use Rattle.script_text.specs.ScriptGrammar.{Line, turns}
 use Rattle.script_lines.specs.Streams.{stream_of}
-use Rattle.apei_script.specs.Players.{PlayerState, budget_of}
-use Rattle.apei_script.specs.Words.{Reply, at_step, said_at, words_of_block, text_of_reply, text_of_replies, reply_at}
+use Rattle.apei_script.specs.Players.{PlayerState, client_of, budget_of}
+use Rattle.apei_script.specs.Words.{Reply, at_step, said_at, words_of_block, text_of_replies, reply_at}
 use Rattle.script_text.specs.Turns.{side_of}
-use Rattle.apei_script.specs.Bridged.{words_of_turn, words_of_step, words_of_steps, words_of_made, HasTaken, block_of, blocks_in, block_replies, replies_of, ByBridge, Enters, StaysAs, BridgesTurns, TurnsShown}
+use Rattle.apei_script.specs.Bridged.{words_of_turn, words_of_steps, words_of_made, HasTaken, block_of, replies_of, ByBridge, Enters, StaysAs, BridgesTurns, TurnsShown}
 use Rattle.apei_script.specs.Plays.{Plays, Blank, ByClient, GivenTable, OwnTable, GivenShadow, OnMachine, ByTheBridge, OnlyTells, Reset, Power, Told, changes_in, LinePlayed, PlaysLine, PlaysUnwritten, LeftIn, AtLast, InBridged, stage_in, played_as}
-use Rattle.apei_script.specs.History.{ShowsLine}
+use Rattle.apei_script.specs.Mapped.{after_line}
 use Rattle.apei_script.specs.declared.session.Session.{Session}
 use Rattle.apei_script.specs.Sessions.{state_of, SameClients}
 use Rattle.apei_script.proofs.PlayLemmas.{quiet_with, shows_none, other_bridge}
@@ -68,10 +68,10 @@ line_turned tells programs told counts old line said blocks steps new plays mach
       | ByClient line words machine commanded ↦ shows_none old.bridge old.machine machine
       | GivenTable hex bytes words machine other decoded gives ↦ shows_none old.bridge old.machine machine
       | OwnTable ↦ shows_none old.bridge old.machine old.machine
-      | GivenShadow machine gives ↦ shows_none old.bridge old.machine machine
+      | GivenShadow left machine attaches attached reaches ↦ shows_none old.bridge old.machine machine
       | OnMachine line said blocks machine alone happened ↦ shows_none old.bridge old.machine machine
       | ByTheBridge line said blocks steps next machine by ↦ of_bridge line said blocks steps next machine by
-      | OnlyTells line words told ↦ shows_none old.bridge old.machine old.machine
+      | OnlyTells ↦ shows_none old.bridge old.machine old.machine
       | Reset n machine warms ↦ shows_none old.bridge old.machine machine
       | Power n machine powers ↦ shows_none old.bridge old.machine machine
     ]
@@ -83,6 +83,13 @@ line_turned tells programs told counts old line said blocks steps new plays mach
       | StaysAs id why refuses ↦ shows_none old.bridge old.machine old.machine
       | BridgesTurns letters steps next last on are sides counted ↦ turns_shown tells programs told old.own (budget_of old) old.bridge old.machine steps next last own machine are
     ]
+
+-- the blocks that turns took, and the replies to them
+abbrev pub blocks_in : List Step → List (List ℕ)
+blocks_in steps = flat_map (λ (step : Step). block_of step.turn (last_of step.machine)) steps
+
+abbrev pub block_replies : List Step → List Reply
+block_replies steps = flat_map (λ (step : Step). said_at (changes_in step.machine) (map words_of_block (block_of step.turn (last_of step.machine)))) steps
 
 -- A turn that took a block
 
@@ -153,11 +160,11 @@ again_told (OfBridge event) = refl
 words_made : (steps : List Step) → words_of_made (made_by steps) ≡ words_of_steps steps
 words_made steps = ap (λ (xs : List ℕ). codes "turns" ++ xs) (each steps)
   where
-    each : (steps : List Step) → flat_map (λ (one : MadeTurn). codes " " ++ words_of_turn (turn_of one.turn) one.step) (made_by steps) ≡ flat_map (λ (step : Step). codes " " ++ words_of_step step) steps
+    each : (steps : List Step) → flat_map (λ (one : MadeTurn). codes " " ++ words_of_turn (turn_of one.turn) one.step) (made_by steps) ≡ flat_map (λ (step : Step). codes " " ++ words_of_turn step.turn (changes_in step.machine)) steps
     each [] = refl
     each (step ∷ steps) =
         ap (λ (turn : Turn). (codes " " ++ words_of_turn turn (changes_in step.machine)) ++ flat_map (λ (one : MadeTurn). codes " " ++ words_of_turn (turn_of one.turn) one.step) (made_by steps)) (again_told step.turn)
-        ∙ ap (λ (xs : List ℕ). (codes " " ++ words_of_step step) ++ xs) (each steps)
+        ∙ ap (λ (xs : List ℕ). (codes " " ++ words_of_turn step.turn (changes_in step.machine)) ++ xs) (each steps)
 
 -- the words of turns behind others
 abbrev pub turns_behind : List MadeTurn → List ℕ
@@ -187,6 +194,10 @@ blocks_more steps step =
 shown_more : (steps : List Step) (step : Step) → block_replies (steps ++ step ∷ []) ≡ block_replies steps ++ shown_block step.turn step.machine
 shown_more steps step =
     flat_map-append (λ (step : Step). shown_block step.turn step.machine) steps (step ∷ []) ∙ ap (λ (xs : List Reply). block_replies steps ++ xs) (append-nil (shown_block step.turn step.machine))
+
+-- the line of a reply
+abbrev text_of_reply : Reply → List ℕ
+text_of_reply reply = reply_at reply.step reply.words
 
 -- replies, and one more
 text_more : (written : List ℕ) (said : List Reply) (last : Reply) → (written ++ text_of_replies said) ++ text_of_reply last ≡ written ++ text_of_replies (said ++ last ∷ [])
@@ -372,6 +383,13 @@ module _ {L : Type 0} (hearing : L → Hearing) (tells told_sink : Type 0) (prog
           part.1 ∙ ap (λ (xs : List ℕ). xs ++ take part.0 (reply_at (changes_in new.machine) (words_of_block new.machine.handover.last))) (so.text t),
         );
       }
+
+-- what power lost at step s in a line may show
+abbrev pub ShowsLine : ℕ → PlayerState → Line → List Step → Stored → Type 0
+ShowsLine s state line steps shown = elim steps [
+  | [] ↦ (shown ≡ records_of state.machine) ⊎ (shown ≡ after_line (client_of state).range state.machine line)
+  | step ∷ more ↦ ShowsTurns s state.bridge state.machine (step ∷ more) shown
+]
 
 -- before a line has changed anything
 shows_at_start : (tells : Type 0) → tells → (client : ClientState) (budget : ℕ) (old : PlayerState) (line : Line) (steps : List Step) (next : BridgeState) (last : MachineState)

@@ -9,14 +9,14 @@ use Rattle.erst_bridge.specs.Bridges.{BridgeState}
 use Rattle.erst_machine.specs.MachineState.{MachineState, IsMachine}
 use Rattle.erst_machine.specs.Allowed.{Allows}
 use Rattle.script_text.specs.ScriptGrammar.{Line, IsValid, read}
-use Rattle.apei_script.specs.Players.{in_use, budget_by, asker_of}
+use Rattle.apei_script.specs.Players.{budget_by, asker_of}
 use Rattle.apei_script.specs.Words.{said_at, words_of_read}
 use Rattle.apei_script.specs.Asked.{ReadsRecord, Commanded, ReadAsked}
 use Rattle.apei_script.specs.Plays.{ByClient, changes_in}
 use Rattle.apei_script.specs.Sessions.{CommandPlayed, ReadPlayed}
 use Rattle.apei_script.proofs.LawLemmas.{own_programs}
 use Rattle.apei_script.proofs.PlayedLemmas.{line_played}
-use Rattle.apei_script.proofs.SessionLines.{player}
+use Rattle.apei_script.proofs.SessionLines.{player, in_use}
 
 -- the bytes of a record's digits
 pub are_decoded : (bytes : List ℕ) → IsBytes bytes → decode_of (encode_lower bytes) ≡ Ok bytes

@@ -1,7 +1,7 @@
 -- The same lines of two players that are equivalent.
 use Rattle.std.specs.Prelude.{not, if◌then◌else◌, codes}
 use Rattle.std.specs.List.{flat_map}
-use Rattle.std.proofs.Common.{◌≡◌, inl, inr, ℕ, ◌+◌, ◌*◌, Bool, true, false, List, [], ◌∷◌, ◌++◌, length, map, Option, Some, None, Result, Ok, Err, refl, sym, ap, subst, ◌∙◌}
+use Rattle.std.proofs.Common.{◌≡◌, inl, inr, ℕ, ◌+◌, ◌*◌, Bool, true, false, List, [], ◌∷◌, ◌++◌, decimal, length, map, Option, Some, None, Result, Ok, Err, refl, sym, ap, subst, ◌∙◌}
 use Rattle.std.proofs.lemmas.Option.{none-some, same_Some}
 use Rattle.base_model.specs.Faults.{Rose}
 use Rattle.base_model.specs.Flash.{FlashState}
@@ -40,24 +40,28 @@ use Rattle.erst_commands.proofs.EventOutlines.{happens_alike}
 use Rattle.erst_commands.proofs.OneLemmas.{one_list}
 use Rattle.record_model.specs.Records.{is_reserved}
 use Rattle.ghes_ack.specs.Machine.{Situation, is_idle}
-use Rattle.erst_bridge.specs.Bridges.{BridgeState, Awaits}
+use Rattle.erst_bridge.specs.Bridges.{BridgeState, Off, Awaits}
 use Rattle.erst_bridge.specs.Turns.{last_of, Turn, Step, AreTurns}
 use Rattle.erst_bridge.specs.Made.{sides_in}
 use Rattle.erst_bridge.specs.EquivalentSteps.{StepOutline, step_outline, EquivalentSteps}
+use Rattle.script_text.specs.TableWords.{words_of_erst}
 use Rattle.script_text.specs.ScriptGrammar.{Line, blank, write, read, clear, count, next, dummy, action, table, own_table, shadow_table, turns, bert, heard, reset, power, bridge}
 use Rattle.erst_shadow.specs.ShadowTables.{scratch_at, pieces_of, shadow_count, shadow_erst}
 use Rattle.erst_shadow.specs.ShadowCommands.{pieces_in, shadow_client}
-use Rattle.apei_script.specs.Players.{PlayerState, client_of, budget_of, with_machine}
-use Rattle.apei_script.specs.Words.{Reply, at_step, said_at, text_of_replies, refused, words_of_write, words_of_read, words_of_clear, words_of_count, words_of_next, words_of_dummy, words_of_action, words_of_table, words_of_no_table, words_of_record, words_of_turns, words_of_block, words_of_bert, words_of_reset, words_of_power}
-use Rattle.apei_script.specs.Tables.{ATTACH_STEPS, BeginsWith, GivesShadow}
-use Rattle.apei_script.specs.Bridged.{is_on, bridge_refusal, words_of_bridge, words_of_turn, words_of_steps, block_of, blocks_in, block_replies, replies_of}
-use Rattle.apei_script.specs.Plays.{words_told, Plays, restarted, changes_in, step_of, played_as}
+use Rattle.apei_script.specs.Players.{PlayerState, client_of, budget_of}
+use Rattle.apei_script.specs.Words.{Reply, at_step, said_at, text_of_replies, refused, words_of_write, words_of_read, words_of_clear, words_of_count, words_of_next, words_of_dummy, words_of_action, words_of_table, words_of_record, words_of_turns, words_of_block, words_of_bert}
+use Rattle.apei_script.specs.Tables.{ATTACH_STEPS, BeginsWith}
+use Rattle.apei_script.proofs.ShadowGiving.{GivesShadow}
+use Rattle.apei_script.specs.Bridged.{bridge_refusal, words_of_turn, words_of_steps, block_of, replies_of}
+use Rattle.apei_script.specs.Plays.{Plays, changes_in, step_of, played_as}
 use Rattle.apei_script.specs.History.{Played, heard_of, heard_after, Follows, text_of, reply_of}
 use Rattle.apei_script.specs.Equivalence.{EquivalentPlayers, own_player, WantAlike, lines_in, said_in, taken_in, PlayedAlike}
+use Rattle.apei_script.proofs.PlayLemmas.{with_machine}
 use Rattle.apei_script.proofs.HistoryLemmas.{history_goes_on}
 use Rattle.apei_script.proofs.TurnsAlike.{turned_alike}
-use Rattle.apei_script.proofs.LineKinds.{Left, AskedBy, HappenedBy, words_of_given, other_after, Given, NoTable, Tried, ByItsClient, ByItself, ByOneEvent, ByBridgeTurns, Entered, TurnedOn, NotOn, PlaysOther, PlaysAs, PlaysBy, plays_by}
-use Rattle.apei_script.proofs.OneEvent.{asks_once, same_bytes, once}
+use Rattle.apei_script.proofs.LineKinds.{restarted, Left, AskedBy, HappenedBy, words_of_given, other_after, Given, NoTable, Tried, ByItsClient, ByItself, ByOneEvent, ByBridgeTurns, Entered, TurnedOn, NotOn, PlaysOther, PlaysAs, PlaysBy, plays_by}
+use Rattle.apei_script.proofs.OneEvent.{words_told, asks_once, same_bytes, once}
+use Rattle.apei_script.proofs.BridgeLemmas.{blocks_in, block_replies}
 
 abbrev faults_of : MachineState → ℕ
 faults_of state = state.device.store.flash.faults
@@ -104,7 +108,7 @@ record Ends (words also_words : List ℕ) (new also_new : MachineState) : Type 0
 abbrev refusal_in : BridgeState → Situation → ℕ → Option (List ℕ)
 refusal_in state situation id =
     if is_reserved id then Some (codes "id")
-    else (if is_on state then Some (codes "on") else (if not (is_idle situation) then Some (codes "reading") else None))
+    else elim state [ Off ↦ if not (is_idle situation) then Some (codes "reading") else None | on ↦ Some (codes "on") ]
 
 -- what is told of turns by what they did, the flash changes behind them and the block taken last
 flat_alike : {A : Type 0} (f : Turn → ℕ → List ℕ → List A) (steps others : List Step) → EquivalentSteps steps others
@@ -201,8 +205,8 @@ module _ (tells : Type 0) (told : tells) where
   given_alike : (one also : MachineState) → EquivalentMachines one also → (other : Option ClientState) (bytes words also_words : List ℕ) (new also_new : MachineState) (now also_now : Option ClientState)
       → Given tells one other bytes words new now → FailedNothing one new → Given tells also other bytes also_words also_new also_now → FailedNothing also also_new
       → EndsTable words also_words new also_new now also_now
-  given_alike one also equivalent other bytes words also_words new also_new now also_now (NoTable why refused words_are still other_is) quiet (NoTable reason refuses spoken stays kept) also_quiet = record {
-    same = words_are ∙ ap words_of_no_table (same_Some why reason (sym refused ∙ refuses)) ∙ sym spoken;
+  given_alike one also equivalent other bytes words also_words new also_new now also_now (NoTable why is_none words_are still other_is) quiet (NoTable reason refuses spoken stays kept) also_quiet = record {
+    same = words_are ∙ ap (λ (error : ErstError). refused (codes "table " ++ words_of_erst error)) (same_Some why reason (sym is_none ∙ refuses)) ∙ sym spoken;
     equivalent = ap machine_outline still ∙ equivalent ∙ sym (ap machine_outline stays);
     others = other_is ∙ sym kept;
   }
@@ -309,9 +313,9 @@ module _ (tells : Type 0) (told : tells) where
     entered_alike : (id : ℕ) (said also_said : List Reply) (blocks also_blocks : List (List ℕ)) (new also_new : PlayerState) → Entered tells old id said blocks new
         → Entered tells counterpart id also_said also_blocks also_new → LineAlike said also_said blocks also_blocks new also_new
     entered_alike id said also_said blocks also_blocks new also_new (TurnedOn none left) (TurnedOn nor left_too) =
-        close said also_said blocks also_blocks (said_at (changes_in old.machine) (words_of_bridge id ∷ [])) (said_at (changes_in machine_too) (words_of_bridge id ∷ [])) [] [] new also_new
+        close said also_said blocks also_blocks (said_at (changes_in old.machine) ((codes "bridge " ++ decimal id) ∷ [])) (said_at (changes_in machine_too) ((codes "bridge " ++ decimal id) ∷ [])) [] [] new also_new
         (record old { bridge = Awaits id }) (record counterpart { bridge = Awaits id }) left left_too
-        (same_said old.machine machine_too (words_of_bridge id ∷ []) (words_of_bridge id ∷ []) equivalent refl) refl (bridges_alike old.machine machine_too (Awaits id) (Awaits id) equivalent refl)
+        (same_said old.machine machine_too ((codes "bridge " ++ decimal id) ∷ []) ((codes "bridge " ++ decimal id) ∷ []) equivalent refl) refl (bridges_alike old.machine machine_too (Awaits id) (Awaits id) equivalent refl)
     entered_alike id said also_said blocks also_blocks new also_new (NotOn why refuses left) (NotOn reason refused_too left_too) =
         close said also_said blocks also_blocks (said_at (changes_in old.machine) (refused why ∷ [])) (said_at (changes_in machine_too) (refused reason ∷ [])) [] [] new also_new old counterpart left left_too
         (same_said old.machine machine_too (refused why ∷ []) (refused reason ∷ []) equivalent
@@ -377,9 +381,9 @@ module _ (tells : Type 0) (told : tells) where
     other_alike (bridge id) said also_said blocks also_blocks new also_new first quiet second also_quiet = entered_alike id said also_said blocks also_blocks new also_new first second
     other_alike bert said also_said blocks also_blocks new also_new first quiet second also_quiet = by_itself_alike bert said also_said blocks also_blocks new also_new first second
     other_alike reset said also_said blocks also_blocks new also_new first quiet second also_quiet =
-        restart_alike (λ n. Warmed (Ok n)) words_of_reset (λ n m. refl) (λ n m e. cc e) said also_said blocks also_blocks new also_new first.0 second.0 first.1 second.1 first.2 first.3 quiet second.2 second.3 also_quiet
+        restart_alike (λ n. Warmed (Ok n)) (λ n. codes "reset " ++ decimal n) (λ n m. refl) (λ n m e. cc e) said also_said blocks also_blocks new also_new first.0 second.0 first.1 second.1 first.2 first.3 quiet second.2 second.3 also_quiet
     other_alike power said also_said blocks also_blocks new also_new first quiet second also_quiet =
-        restart_alike (λ n. Powered (Ok n)) words_of_power (λ n m. refl) (λ n m e. cc e) said also_said blocks also_blocks new also_new first.0 second.0 first.1 second.1 first.2 first.3 quiet second.2 second.3 also_quiet
+        restart_alike (λ n. Powered (Ok n)) (λ n. codes "power " ++ decimal n) (λ n m. refl) (λ n m e. cc e) said also_said blocks also_blocks new also_new first.0 second.0 first.1 second.1 first.2 first.3 quiet second.2 second.3 also_quiet
     other_alike line said also_said blocks also_blocks new also_new first quiet second also_quiet = absurd first
 
     by_event_alike : (line : Line) (said also_said : List Reply) (blocks also_blocks : List (List ℕ)) (new also_new : PlayerState) → ByOneEvent tells old line said blocks new → FailedNothing old.machine new.machine

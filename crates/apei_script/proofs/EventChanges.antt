@@ -4,12 +4,15 @@ use Rattle.std.proofs.Common.{◌≡◌, ◌⊎◌, ℕ, ◌+◌, ◌≤◌, ◌
 use Rattle.base_model.specs.Faults.{Rose}
 use Rattle.record_store.specs.Store.{StoreView}
 use Rattle.record_store.specs.Answers.{copies_in}
+use Rattle.apei_tables.specs.declared.widths.Width.{Width}
 use Rattle.apei_tables.specs.Access.{bits}
 use Rattle.apei_space.specs.Calls.{Call, Read, Write, Wait, Copy, ReadBytes, WriteBytes}
 use Rattle.apei_space.specs.Accesses.{Move, Trail}
 use Rattle.apei_space.specs.Windows.{address_of}
 use Rattle.ghes_ack.specs.declared.submission.SubmitError.{SubmitError}
+use Rattle.erst_entries.specs.Actions.{action_of}
 use Rattle.erst_device.specs.DeviceState.{DeviceState}
+use Rattle.erst_device.specs.Effects.{changes_of_action}
 use Rattle.erst_machine.specs.declared.errors.BootError.{BootError}
 use Rattle.erst_machine.specs.declared.areas.Area.{Area}
 use Rattle.erst_machine.specs.declared.areas.Area.TheVariants.{Device, Scratch, LogRange, Handover, BootErrors, Ports}
@@ -22,7 +25,7 @@ use Rattle.erst_machine.specs.MachineState.{MachineState, location_of, location_
 use Rattle.erst_machine.specs.Allowed.{NumberWrite, write_of, RegisterWritten, AreaWritten, NumberWritten, Allows}
 use Rattle.erst_machine.specs.Events.{Warms, Powers, Event, Accessed, Warmed, Powered, Submitted, Turned, Laid, Submits, Happens}
 use Rattle.erst_machine.proofs.CrashTrail.{stored_store, copied_store}
-use Rattle.apei_script.specs.Changes.{changes_at_register, changes_in, changes_at, changes_by_call, changes_by_event, changes_along}
+use Rattle.apei_script.specs.Changes.{changes_by_event, changes_along}
 
 -- what happened took so many changes where no fault was counted, the count of faults never falls, and the flash is divided as it was
 pub record Takes (tells : Type 0) (old : MachineState) (changes : ℕ) (new : MachineState) : Type 0 where
@@ -39,14 +42,30 @@ still tells old new same = subst
 by_state : (tells : Type 0) (old new other : MachineState) → new ≡ other → other.device.store ≡ old.device.store → Takes tells old 0 new
 by_state tells old new other is same = still tells old new (ap (λ (s : MachineState). s.device.store) is ∙ same)
 
+-- the changes of a write of a number, by its register and by its place
+abbrev at_register : MachineState → ℕ → Register → ℕ
+at_register state code register = elim register [
+  | Action ↦ changes_of_action (action_of code) state.device state.memory.range
+  | other ↦ 0
+]
+
+abbrev at_location : MachineState → Width → ℕ → Location → ℕ
+at_location state width code location = elim location [
+  | Inside Device start ↦ elim (register_at start width) [
+    | Action ↦ changes_of_action (action_of code) state.device state.memory.range
+    | other ↦ 0
+  ]
+  | other ↦ 0
+]
+
 of_register : (tells : Type 0) (register : Register) (old new : MachineState) (write : NumberWrite) →
-    RegisterWritten tells register old write new → Takes tells old (changes_at_register register old (write.value % 2 ^ 32)) new
+    RegisterWritten tells register old write new → Takes tells old (at_register old (write.value % 2 ^ 32) register) new
 of_register tells Action old new write h = record { never_falls = h.1.effect.never_falls; layout = h.1.effect.equivalent.layout; exact = h.1.effect.exact }
 of_register tells Value old new write h = by_state tells old new _ h.1 refl
 of_register tells NoRegister old new write h = by_state tells old new _ h.1 refl
 
 of_area : (tells : Type 0) (area : Area) (start : ℕ) (old new : MachineState) (write : NumberWrite) →
-    AreaWritten tells area start old write new → Takes tells old (changes_in area start old write.width (write.value % 2 ^ 32)) new
+    AreaWritten tells area start old write new → Takes tells old (at_location old write.width (write.value % 2 ^ 32) (Inside area start)) new
 of_area tells Device start old new write h = of_register tells (register_at start write.width) old new write h
 of_area tells Scratch start old new write h = by_state tells old new _ h.1 refl
 of_area tells LogRange start old new write h = by_state tells old new _ h.1 refl
@@ -55,12 +74,12 @@ of_area tells BootErrors start old new write h = by_state tells old new _ h.1 re
 of_area tells Ports start old new write h = by_state tells old new _ h.1 refl
 
 of_write : (tells : Type 0) (location : Location) (old new : MachineState) (write : NumberWrite) →
-    NumberWritten tells location old write new → Takes tells old (changes_at location old write.width (write.value % 2 ^ 32)) new
+    NumberWritten tells location old write new → Takes tells old (at_location old write.width (write.value % 2 ^ 32) location) new
 of_write tells (Inside area start) old new write h = of_area tells area start old new write h
 of_write tells (Beyond area address) old new write h = by_state tells old new _ h.1 refl
 of_write tells (Nowhere address) old new write h = by_state tells old new _ h.1 refl
 
-of_access : (tells : Type 0) (old : MachineState) (call : Call) (new : MachineState) → Allows tells old call new → Takes tells old (changes_by_call old call) new
+of_access : (tells : Type 0) (old : MachineState) (call : Call) (new : MachineState) → Allows tells old call new → Takes tells old (changes_by_event old (Accessed call)) new
 of_access tells old (Read at width answer) new h = by_state tells old new _ h.1 refl
 of_access tells old (Write at width value answer) new h = of_write tells (location_of old at (bits width / 8)) old new (write_of (address_of at) width value answer) h
 of_access tells old (Wait micros) new h = by_state tells old new _ h refl

@@ -15,7 +15,7 @@ use Rattle.erst_machine.specs.Events.{Turns, Submits, Event, Accessed, Submitted
 use Rattle.erst_machine.specs.Stations.{same_handover}
 use Rattle.erst_machine.proofs.EventLemmas.{events_keep}
 use Rattle.erst_bridge.specs.declared.events.BridgeEvent.{BridgeEvent}
-use Rattle.erst_bridge.specs.declared.events.BridgeEvent.TheVariants.{Line as ByReader}
+use Rattle.erst_bridge.specs.declared.events.BridgeEvent.TheVariants.{Line as ByReader, Stored}
 use Rattle.erst_bridge.specs.Bridges.{BridgeState, Off, Awaits, Holds, Releases, HoldsNone, after_reader, TurnsReader, Stores, Keeps, RunsOut}
 use Rattle.erst_bridge.specs.InStep.{GivesBack, IsInOrder}
 use Rattle.erst_bridge.proofs.InStepLemmas.{reading_cases}
@@ -29,32 +29,40 @@ use Rattle.apei_script.specs.Players.{PlayerState, budget_of}
 use Rattle.apei_script.specs.Words.{Reply}
 use Rattle.apei_script.specs.Tables.{GivesTable, IsNoTable, IsNotAttached, IsAttached}
 use Rattle.apei_script.specs.Happened.{Happened, Once, Turn as TurnLine, IsListed}
-use Rattle.apei_script.specs.Bridged.{NeedsNoBridge, ByBridge, Enters, StaysAs, BridgesTurns}
+use Rattle.apei_script.specs.Bridged.{ByBridge, Enters, StaysAs, BridgesTurns}
 use Rattle.apei_script.specs.Plays.{Plays, Blank, ByClient, GivenTable, OwnTable, GivenShadow, OnMachine, ByTheBridge, OnlyTells, Reset, Power, played_as}
 use Rattle.apei_script.specs.History.{Played, heard_after, Follows}
-use Rattle.apei_script.specs.Orders.{IsInStep, StoredBlock, stored_behind, stored_behind_all, GivesStoredBack, GiveStoredBack, AllGiveStoredBack}
-use Rattle.apei_script.proofs.OneEvent.{IsQuiet, once}
+use Rattle.apei_script.specs.Orders.{IsInStep, stored_behind, GiveStoredBack, AllGiveStoredBack}
+use Rattle.apei_script.proofs.OneEvent.{IsQuiet, NeedsNoBridge, once}
 use Rattle.apei_script.proofs.OrderLemmas.{line_order}
 
-abbrev stored_as : ℕ → List ℕ → Option StoredBlock
-stored_as id block = Some (record { id = id; block = block })
+-- the block that was stored last, behind a turn
+abbrev stored_by : Option (List ℕ) → BridgeState → Turn → Option (List ℕ)
+stored_by last state turn = elim turn [
+  | OfBridge (Stored id) ↦ elim state [ Holds held block ↦ Some block | other ↦ None ]
+  | other ↦ last
+]
+
+-- and what is given back in a turn is that block
+abbrev GivesStoredBack : Option (List ℕ) → MachineState → Turn → Type 0
+GivesStoredBack last old turn = elim turn [ OfBridge (ByReader event) ↦ GivesBack event → last ≡ Some (last_of old) | other ↦ Unit {0} ]
 
 -- until the reader has acknowledged it, the block that was stored last is the one that the reader took last
-abbrev IsAtHand : Option StoredBlock → BridgeState → MachineState → Type 0
+abbrev IsAtHand : Option (List ℕ) → BridgeState → MachineState → Type 0
 IsAtHand last Off machine = Unit {0}
 IsAtHand last (Awaits id) machine = Unit {0}
 IsAtHand last (Holds id block) machine = Unit {0}
-IsAtHand last (Releases next) machine = (id : ℕ) × (last ≡ stored_as id (last_of machine))
+IsAtHand last (Releases next) machine = last ≡ Some (last_of machine)
 
-at_hand_on : (last : Option StoredBlock) (state : BridgeState) (old new : MachineState) → last_of new ≡ last_of old → IsAtHand last state old → IsAtHand last state new
+at_hand_on : (last : Option (List ℕ)) (state : BridgeState) (old new : MachineState) → last_of new ≡ last_of old → IsAtHand last state old → IsAtHand last state new
 at_hand_on last Off old new same held = tt
 at_hand_on last (Awaits id) old new same held = tt
 at_hand_on last (Holds id block) old new same held = tt
-at_hand_on last (Releases next) old new same held = (held.0, held.1 ∙ ap (stored_as held.0) (sym same))
+at_hand_on last (Releases next) old new same held = held ∙ ap (λ (block : List ℕ). Some block) (sym same)
 
 -- a turn, and what is at hand behind it
-abbrev GivesThen : Option StoredBlock → BridgeState → MachineState → Turn → BridgeState → MachineState → Type 0
-GivesThen last state old turn next new = GivesStoredBack last old turn × IsAtHand (stored_behind last state turn) next new
+abbrev GivesThen : Option (List ℕ) → BridgeState → MachineState → Turn → BridgeState → MachineState → Type 0
+GivesThen last state old turn next new = GivesStoredBack last old turn × IsAtHand (stored_by last state turn) next new
 
 -- no block is given back while one is awaited
 none_given : (id : ℕ) (event : TurnEvent) → IsInOrder (Awaits id) (ByReader event) → GivesBack event → ⊥
@@ -72,7 +80,7 @@ given_last m Acknowledged gives = absurd gives
 
 module _ (tells : Type 0) where
   module _ (client : ClientState) (budget : ℕ) where
-    reader_gives : (last : Option StoredBlock) (id : ℕ) (state : BridgeState) (old : MachineState) (event : TurnEvent) (new : MachineState) (m : Machine) → HoldsNone id state → Turns Reader old event new → StandsInStep state old m
+    reader_gives : (last : Option (List ℕ)) (id : ℕ) (state : BridgeState) (old : MachineState) (event : TurnEvent) (new : MachineState) (m : Machine) → HoldsNone id state → Turns Reader old event new → StandsInStep state old m
         → KeepsOrder state (OfBridge (ByReader event)) → IsAtHand last state old → GivesThen last state old (OfBridge (ByReader event)) (after_reader event id (last_of new) state) new
     reader_gives last id Off old event new m none reads paired order held = absurd none
     reader_gives last id (Holds n block) old event new m none reads paired order held = absurd none
@@ -83,7 +91,7 @@ module _ (tells : Type 0) where
         let same : last_of new ≡ last_of old = t.stands.last ∙ given_last m m.situation (subst GivesBack t.event_is order) ∙ sym paired.stands.last in
         ((λ gives. held), reader_cases (λ state. IsAtHand last state new) event id (last_of new) (Releases n) tt tt (at_hand_on last (Releases n) old new same held))
 
-    bridge_gives : (last : Option StoredBlock) (state : BridgeState) (old : MachineState) (event : BridgeEvent) (next : BridgeState) (left : ℕ) (new : MachineState) (m : Machine)
+    bridge_gives : (last : Option (List ℕ)) (state : BridgeState) (old : MachineState) (event : BridgeEvent) (next : BridgeState) (left : ℕ) (new : MachineState) (m : Machine)
         → BridgesMachine tells client budget old state event next left new → StandsInStep state old m → StandsInStep next new (handover_after (OfBridge event) m) → KeepsOrder state (OfBridge event) → IsAtHand last state old
         → GivesThen last state old (OfBridge event) next new
     bridge_gives last state old event next left new m turn =
@@ -91,12 +99,12 @@ module _ (tells : Type 0) where
         → GivesThen last state old (OfBridge event) after.bridge after.station) [
           | TurnsReader id state event new none reads ↦ λ paired behind order held. reader_gives last id state old event new m none reads paired order held
           | Stores id block left new small writes ↦ λ paired behind order held.
-              (tt, (id, ap (stored_as id) (paired.step.2 ∙ sym behind.stands.last)))
+              (tt, ap (λ (block : List ℕ). Some block) (paired.step.2 ∙ sym behind.stands.last))
           | Keeps id block error left new small writes ↦ λ paired behind order held. (tt, tt)
           | RunsOut id block at ↦ λ paired behind order held. (tt, tt)
         ]
 
-    turn_gives : (last : Option StoredBlock) (state : BridgeState) (old : MachineState) (turn : Turn) (next : BridgeState) (new : MachineState) (m : Machine) → IsTurn tells client budget state old turn next new
+    turn_gives : (last : Option (List ℕ)) (state : BridgeState) (old : MachineState) (turn : Turn) (next : BridgeState) (new : MachineState) (m : Machine) → IsTurn tells client budget state old turn next new
         → StandsInStep state old m → StandsInStep next new (handover_after turn m) → KeepsOrder state turn → IsAtHand last state old → GivesThen last state old turn next new
     turn_gives last state old (OfFirmware event) next new m is paired behind order held =
         let same = firmware_same m m.situation in
@@ -104,14 +112,14 @@ module _ (tells : Type 0) where
         (tt, subst (λ (b : BridgeState). IsAtHand last b new) (sym is.0) (at_hand_on last state old new last_is held))
     turn_gives last state old (OfBridge event) next new m is paired behind order held = bridge_gives last state old event next is.0 new m is.1 paired behind order held
 
-    turns_give : (last : Option StoredBlock) (state : BridgeState) (old : MachineState) (steps : List Step) (next : BridgeState) (new : MachineState) (m : Machine) → AreTurns tells client budget state old steps next new
-        → StandsInStep state old m → IsAtHand last state old → GiveStoredBack last state old steps × IsAtHand (stored_behind_all last state steps) next new
+    turns_give : (last : Option (List ℕ)) (state : BridgeState) (old : MachineState) (steps : List Step) (next : BridgeState) (new : MachineState) (m : Machine) → AreTurns tells client budget state old steps next new
+        → StandsInStep state old m → IsAtHand last state old → GiveStoredBack last state old steps × IsAtHand (stored_behind last state steps) next new
     turns_give last state old [] next new m are paired held =
         (tt, subst (λ (b : BridgeState). IsAtHand last b new) (sym are.0) (subst (IsAtHand last state) (sym are.1) held))
     turns_give last state old (step ∷ rest) next new m are paired held =
         let behind = turn_in_step tells client budget state old step.turn step.bridge step.machine m are.0 paired in
         let one = turn_gives last state old step.turn step.bridge step.machine m are.0 paired behind.1 behind.0 held in
-        let more = turns_give (stored_behind last state step.turn) step.bridge step.machine rest next new (handover_after step.turn m) are.1 behind.1 one.1 in
+        let more = turns_give (stored_by last state step.turn) step.bridge step.machine rest next new (handover_after step.turn m) are.1 behind.1 one.1 in
         ((one.0, more.0), more.1)
 
   -- what else happens to the machine leaves the block that was taken last
@@ -129,7 +137,7 @@ module _ (tells : Type 0) where
   event_last old (Laid block result) new quiet lays = ap last_of lays.others
   event_last old event new quiet happens = absurd quiet
 
-  happened_at_hand : (last : Option StoredBlock) (state : BridgeState) (old : MachineState) (line : Line) (words blocks : List (List ℕ)) (new : MachineState) → Happened tells old line words blocks new → NeedsNoBridge state line
+  happened_at_hand : (last : Option (List ℕ)) (state : BridgeState) (old : MachineState) (line : Line) (words blocks : List (List ℕ)) (new : MachineState) → Happened tells old line words blocks new → NeedsNoBridge state line
       → IsAtHand last state old → IsAtHand last state new
   happened_at_hand last state old line words blocks new happened = elim happened as (λ line words blocks new happened. NeedsNoBridge state line → IsAtHand last state old → IsAtHand last state new) [
     | Once line event words new asks happens ↦ λ alone held. at_hand_on last state old new (event_last old event new (once line event words asks).quiet happens) held
@@ -144,12 +152,12 @@ module _ (tells : Type 0) where
     | IsAttached erst client left new begins attaches reaches ↦ reached_last old new reaches
   ]
 
-  by_bridge : (last : Option StoredBlock) (old : PlayerState) (line : Line) (said : List Reply) (blocks : List (List ℕ)) (steps : List Step) (next : BridgeState) (machine : MachineState)
+  by_bridge : (last : Option (List ℕ)) (old : PlayerState) (line : Line) (said : List Reply) (blocks : List (List ℕ)) (steps : List Step) (next : BridgeState) (machine : MachineState)
       → ByBridge tells old line said blocks steps next machine → IsInStep old → IsAtHand last old.bridge old.machine
-      → GiveStoredBack last old.bridge old.machine steps × IsAtHand (stored_behind_all last old.bridge steps) next machine
+      → GiveStoredBack last old.bridge old.machine steps × IsAtHand (stored_behind last old.bridge steps) next machine
   by_bridge last old line said blocks steps next machine by =
       elim by as (λ line said blocks steps next machine by. IsInStep old → IsAtHand last old.bridge old.machine
-      → GiveStoredBack last old.bridge old.machine steps × IsAtHand (stored_behind_all last old.bridge steps) next machine) [
+      → GiveStoredBack last old.bridge old.machine steps × IsAtHand (stored_behind last old.bridge steps) next machine) [
         | Enters id none ↦ λ step held. (tt, tt)
         | StaysAs id why refuses ↦ λ step held. (tt, held)
         | BridgesTurns letters steps next machine on are sides counted ↦ λ step held. elim step [
@@ -158,32 +166,32 @@ module _ (tells : Type 0) where
         ]
       ]
 
-  line_gives : (last : Option StoredBlock) (counts : List ℕ) (old : PlayerState) (line : Line) (said : List Reply) (blocks : List (List ℕ)) (steps : List Step) (new : PlayerState)
+  line_gives : (last : Option (List ℕ)) (counts : List ℕ) (old : PlayerState) (line : Line) (said : List Reply) (blocks : List (List ℕ)) (steps : List Step) (new : PlayerState)
       → Plays tells counts old (played_as line said blocks steps new) → IsInStep old → IsAtHand last old.bridge old.machine
-      → GiveStoredBack last old.bridge old.machine steps × IsAtHand (stored_behind_all last old.bridge steps) new.bridge new.machine
+      → GiveStoredBack last old.bridge old.machine steps × IsAtHand (stored_behind last old.bridge steps) new.bridge new.machine
   line_gives last counts old line said blocks steps new plays =
       elim plays as (λ one plays. IsInStep old → IsAtHand last old.bridge old.machine
-      → GiveStoredBack last old.bridge old.machine one.steps × IsAtHand (stored_behind_all last old.bridge one.steps) one.left.bridge one.left.machine) [
+      → GiveStoredBack last old.bridge old.machine one.steps × IsAtHand (stored_behind last old.bridge one.steps) one.left.bridge one.left.machine) [
         | Blank ↦ λ step held. (tt, held)
         | ByClient line words now commanded ↦ λ step held. (tt, at_hand_on last old.bridge old.machine now (reached_last old.machine now commanded.reaches) held)
         | GivenTable hex bytes words now other decoded gives ↦ λ step held. (tt, at_hand_on last old.bridge old.machine now (table_last old.machine old.other bytes words now other gives) held)
         | OwnTable ↦ λ step held. (tt, held)
-        | GivenShadow now gives ↦ λ step held. (tt, at_hand_on last old.bridge old.machine now (reached_last old.machine now gives.reaches) held)
+        | GivenShadow left now attaches attached reaches ↦ λ step held. (tt, at_hand_on last old.bridge old.machine now (reached_last old.machine now reaches) held)
         | OnMachine line words blocks now alone happened ↦ λ step held. (tt, happened_at_hand last old.bridge old.machine line words blocks now happened alone held)
         | ByTheBridge line said blocks steps next now by ↦ λ step held. by_bridge last old line said blocks steps next now by step held
-        | OnlyTells line words told ↦ λ step held. (tt, held)
+        | OnlyTells ↦ λ step held. (tt, held)
         | Reset n now warms ↦ λ step held. (tt, tt)
         | Power n now powers ↦ λ step held. (tt, tt)
       ]
 
-  lines_give : (last : Option StoredBlock) (wants : List (ℕ → Bool)) (counts : List ℕ) (first : PlayerState) (played : List Played) (end : PlayerState) → IsMachine first.machine
+  lines_give : (last : Option (List ℕ)) (wants : List (ℕ → Bool)) (counts : List ℕ) (first : PlayerState) (played : List Played) (end : PlayerState) → IsMachine first.machine
       → Follows tells wants counts first played end → IsInStep first → IsAtHand last first.bridge first.machine → AllGiveStoredBack last first played
   lines_give last wants counts first [] end machine follows step held = tt
   lines_give last wants counts first (line ∷ rest) end machine follows step held =
       let behind = line_order tells counts first line.line line.said line.blocks line.steps line.left machine follows.0.plays step in
       let one = line_gives last counts first line.line line.said line.blocks line.steps line.left follows.0.plays step held in (
         one.0,
-        lines_give (stored_behind_all last first.bridge line.steps) wants (heard_after wants line.blocks counts) line.left rest end
+        lines_give (stored_behind last first.bridge line.steps) wants (heard_after wants line.blocks counts) line.left rest end
             (events_keep tells first.machine line.left.machine follows.0.happened.trail follows.0.happened.happens machine) follows.1 behind.1 one.1,
       )
 

@@ -12,9 +12,10 @@ use Rattle.erst_client.specs.Attaching.{Attaches}
 use Rattle.erst_client.specs.Commands.{ClientState}
 use Rattle.erst_machine.specs.MachineState.{MachineState}
 use Rattle.erst_machine.specs.Allowed.{Allows}
+use Rattle.script_text.specs.ClientWords.{words_of_attach}
 use Rattle.script_text.specs.TableWords.{ErstHasWords}
 use Rattle.script_text.specs.ScriptGrammar.{table}
-use Rattle.apei_script.specs.Words.{words_of_table, words_of_no_client}
+use Rattle.apei_script.specs.Words.{refused, words_of_table}
 use Rattle.apei_script.specs.Plays.{BringsTable, Given}
 use Rattle.apei_script.specs.Tables.{ATTACH_STEPS, BeginsWith, GivesTable, IsNotAttached, IsAttached}
 
@@ -44,7 +45,7 @@ begins_with erst bytes size is fits sound only = record {
 
 module _ (tells : Type 0) (old : MachineState) (other : Option ClientState) (bytes : List ℕ) where
   pub not_attached : (erst : Erst) (why : AttachError) (budget left : ℕ) (new : MachineState) → BeginsWith erst bytes → budget ≡ ATTACH_STEPS
-      → Attaches (Allows tells) erst budget old (Err why) left new → Reaches (Allows tells) old new → GivesTable tells old other bytes (words_of_no_client why) new other
+      → Attaches (Allows tells) erst budget old (Err why) left new → Reaches (Allows tells) old new → GivesTable tells old other bytes (refused (words_of_attach why)) new other
   not_attached erst why budget left new begins given attaches reaches =
       IsNotAttached erst why left new begins (subst (λ (n : ℕ). Attaches (Allows tells) erst n old (Err why) left new) given attaches) reaches
 

@@ -20,11 +20,13 @@ use Rattle.script_text.specs.ScriptGrammar.{Line}
 use Rattle.apei_script.specs.Words.{Reply}
 use Rattle.erst_client.specs.Commands.{ClientState}
 use Rattle.erst_shadow.specs.ShadowCommands.{shadow_client}
-use Rattle.apei_script.specs.Players.{PlayerState, in_use, UsesOwn, UsesShadow, UsesEither, GivenNoOther}
+use Rattle.apei_script.specs.Players.{PlayerState, UsesOwn, UsesShadow, UsesEither, GivenNoOther}
 use Rattle.apei_script.specs.Plays.{Plays, Blank, ByClient, GivenTable, OwnTable, GivenShadow, OnMachine, ByTheBridge, OnlyTells, Reset, Power, HasHappened, LinePlayed, names_command, IsOwnLine, played_as}
-use Rattle.apei_script.specs.History.{Played, heard_after, Follows, EndInOrder, ShowsLine, ShowsLines, ShowsEachLine, AreOwnLines, IsMapped, IsShadowMapped, AreMapped, NoneSaysHardware, AllGoThrough, AlwaysUsesEither}
+use Rattle.apei_script.specs.History.{Played, heard_after, Follows, EndInOrder, ShowsLines, ShowsEachLine, AreOwnLines, IsMapped, IsShadowMapped, AreMapped, NoneSaysHardware, AllGoThrough, AlwaysUsesEither}
+use Rattle.apei_script.proofs.BridgeLemmas.{ShowsLine}
 use Rattle.apei_script.proofs.EventChanges.{along}
 use Rattle.apei_script.proofs.LineLemmas.{line_divides, line_own}
+use Rattle.apei_script.proofs.SessionLines.{in_use}
 
 abbrev faults_of : MachineState → ℕ
 faults_of state = state.device.store.flash.faults
@@ -56,10 +58,10 @@ module _ (tells : Type 0) where
         | ByClient line words machine commanded ↦ λ same own. stays_given old.other old.machine machine same given
         | GivenTable hex bytes words machine other decoded gives ↦ λ same own. absurd own
         | OwnTable ↦ λ same own. inl refl
-        | GivenShadow machine gives ↦ λ same own. inr (ap (λ (client : ClientState). Some client) (sym (shadow_client-kept old.machine machine same)))
+        | GivenShadow left machine attaches attached reaches ↦ λ same own. inr (ap (λ (client : ClientState). Some client) (sym (shadow_client-kept old.machine machine same)))
         | OnMachine line said blocks machine alone happened ↦ λ same own. stays_given old.other old.machine machine same given
         | ByTheBridge line said blocks steps next machine by ↦ λ same own. stays_given old.other old.machine machine same given
-        | OnlyTells line words told ↦ λ same own. given
+        | OnlyTells ↦ λ same own. given
         | Reset n machine warms ↦ λ same own. inl refl
         | Power n machine powers ↦ λ same own. inl refl
       ] (line_divides tells counts old line said blocks steps new plays) own

@@ -1,11 +1,14 @@
 -- Why the turns of the bridge keep a block, over all lines.
-use Rattle.std.proofs.Common.{◌≡◌, ◌∙◌, inl, inr, ℕ, ◌≤◌, Bool, List, [], ◌∷◌, refl, sym, ap, subst}
+use Rattle.std.proofs.Common.{◌≡◌, ◌∙◌, inl, inr, ℕ, ◌≤◌, Bool, List, [], ◌∷◌, Err, refl, sym, ap, subst}
+use Rattle.base_model.specs.Faults.{Rose}
 use Rattle.erst_client.specs.declared.errors.ClientError.{ClientError}
+use Rattle.erst_client.specs.declared.errors.ClientError.TheVariants.{Hardware}
 use Rattle.erst_client.specs.Commands.{ClientState}
 use Rattle.erst_client.specs.Timings.{enough_steps}
 use Rattle.erst_machine.specs.MachineState.{MachineState, IsMachine}
 use Rattle.erst_machine.proofs.EventLemmas.{events_keep}
 use Rattle.erst_commands.specs.Attached.{own_client}
+use Rattle.erst_commands.specs.Causes.{GoesThrough}
 use Rattle.erst_commands.specs.OwnPrograms.{OwnProgramsRun}
 use Rattle.erst_bridge.specs.declared.events.BridgeEvent.TheVariants.{Line as ByReader, Stored, Kept, Out}
 use Rattle.erst_bridge.specs.Bridges.{BridgeState}
@@ -14,9 +17,21 @@ use Rattle.erst_bridge.proofs.TrailLemmas.{own_client-same, turns_trail}
 use Rattle.erst_bridge.proofs.CauseLemmas.{kept_hardware, kept_through}
 use Rattle.apei_script.specs.Players.{PlayerState, budget_of}
 use Rattle.apei_script.specs.History.{Played, heard_after, Follows}
-use Rattle.apei_script.specs.KeptCauses.{HasCause, HaveCauses, AllHaveCauses}
+use Rattle.apei_script.specs.Bridged.{EachTurn}
+use Rattle.apei_script.specs.KeptCauses.{AllHaveCauses}
 use Rattle.apei_script.proofs.EventChanges.{along}
 use Rattle.apei_script.proofs.KeptLines.{line_turns, machine_then, own_then}
+
+-- a turn that keeps its block has its cause
+abbrev HasCause : Type 0 → MachineState → Turn → MachineState → Type 0
+HasCause enough old turn new = elim turn [
+  | OfBridge (Kept error) ↦ (error ≡ Hardware → Rose old.device.store.flash.faults new.device.store.flash.faults)
+      × (enough → GoesThrough {T = Unit {0}} (Err error))
+  | other ↦ Unit {0}
+]
+
+abbrev HaveCauses : Type 0 → BridgeState → MachineState → List Step → Type 0
+HaveCauses enough state old steps = EachTurn (λ bridge old step. HasCause enough old step.turn step.machine) state old steps
 
 module _ (tells : Type 0) (programs : OwnProgramsRun tells) where
   turn_cause : (client : ClientState) (budget : ℕ) (state : BridgeState) (old : MachineState) (turn : Turn) (next : BridgeState) (new : MachineState) → client ≡ own_client old → IsMachine old
@@ -31,7 +46,7 @@ module _ (tells : Type 0) (programs : OwnProgramsRun tells) where
   turn_cause client budget state old (OfBridge Out) next new own machine is = tt
 
   turns_cause : (client : ClientState) (budget : ℕ) (state : BridgeState) (old : MachineState) (steps : List Step) (next : BridgeState) (last : MachineState) → client ≡ own_client old → IsMachine old
-      → AreTurns tells client budget state old steps next last → HaveCauses (enough_steps client.timings ≤ budget) old steps
+      → AreTurns tells client budget state old steps next last → HaveCauses (enough_steps client.timings ≤ budget) state old steps
   turns_cause client budget state old [] next last own machine are = tt
   turns_cause client budget state old (step ∷ rest) next last own machine are =
       let trail = turns_trail tells client budget state old (step ∷ []) step.bridge step.machine (are.0, (refl, refl)) in
@@ -45,7 +60,7 @@ module _ (tells : Type 0) (programs : OwnProgramsRun tells) where
   all_causes wants counts first [] last machine own follows = tt
   all_causes wants counts first (line ∷ rest) last machine own follows = (
     elim (line_turns tells counts first line.line line.said line.blocks line.steps line.left follows.0.plays) [
-      | inl none ↦ subst (λ (steps : List Step). HaveCauses (enough_steps first.own.timings ≤ budget_of first) first.machine steps) (sym none) tt
+      | inl none ↦ subst (λ (steps : List Step). HaveCauses (enough_steps first.own.timings ≤ budget_of first) first.bridge first.machine steps) (sym none) tt
       | inr are ↦ turns_cause first.own (budget_of first) first.bridge first.machine line.steps line.left.bridge line.left.machine own machine are
     ],
     all_causes wants (heard_after wants line.blocks counts) line.left rest last (machine_then tells counts first line follows.0 machine) (own_then tells counts first line follows.0 own) follows.1,

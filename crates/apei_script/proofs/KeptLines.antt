@@ -28,12 +28,14 @@ use Rattle.erst_bridge.proofs.KeptRecordLemmas.{stored_after}
 use Rattle.script_text.specs.ScriptGrammar.{Line, write, clear}
 use Rattle.apei_script.specs.Players.{PlayerState, client_of, budget_of, GivenNoOther}
 use Rattle.apei_script.specs.Words.{Reply}
-use Rattle.apei_script.specs.Mapped.{after_write, after_line}
+use Rattle.apei_script.specs.Mapped.{after_line}
 use Rattle.apei_script.specs.Bridged.{ByBridge, Enters, StaysAs, BridgesTurns, KeepsBlocks}
 use Rattle.apei_script.specs.Plays.{Plays, ByTheBridge, LinePlayed, IsOwnLine, played_as}
-use Rattle.apei_script.specs.History.{Played, heard_after, Follows, ShowsLine, ShowsLines, AreOwnLines}
-use Rattle.apei_script.specs.Spares.{Spares, SpareTurns, SpareLines, KeepsAll}
-use Rattle.apei_script.proofs.KeptTurns.{kept_turns, blocks_kept}
+use Rattle.apei_script.specs.History.{Played, heard_after, Follows, ShowsLines, AreOwnLines}
+use Rattle.apei_script.specs.Spares.{SpareLines, KeepsAll}
+use Rattle.apei_script.proofs.BridgeLemmas.{ShowsLine}
+use Rattle.apei_script.proofs.KeptTurns.{SpareTurns, kept_turns, blocks_kept}
+use Rattle.apei_script.proofs.LeavesLemmas.{after_write}
 use Rattle.apei_script.proofs.LineLemmas.{line_divides, line_own}
 use Rattle.erst_bridge.proofs.TrailLemmas.{own_client-same}
 use Rattle.apei_script.proofs.HistoryLemmas.{no_other, uses_either}
@@ -62,6 +64,14 @@ kept_written range state (Ok written) id bytes spares is = by_test (is_none (wri
     by_test : (b : Bool) → IsStoredAs id bytes (if b then after state.device.store.layout (Write (id_of written) (marked written)) (records_of state) else records_of state)
     by_test true = stored_after state.device.store.layout (id_of written) (marked written) (records_of state) id bytes (spares written refl) is
     by_test false = is
+
+-- a line that neither writes nor clears an identifier
+abbrev Spares : ℕ → Line → Type 0
+Spares id line = elim line [
+  | clear other ↦ id ≢ other
+  | write hex ↦ (bytes : List ℕ) → decode_of hex ≡ Ok bytes → id ≢ id_of bytes
+  | other ↦ Unit {0}
+]
 
 kept_line : (range : ℕ) (state : MachineState) (line : Line) (id : ℕ) (bytes : List ℕ) → Spares id line → IsStoredAs id bytes (records_of state) → IsStoredAs id bytes (after_line range state line)
 kept_line range state (write hex) id bytes spares is = kept_written range state (decode_of hex) id bytes spares is
@@ -110,7 +120,7 @@ module _ (tells : Type 0) where
 module _ (tells : Type 0) (programs : OwnProgramsRun tells) (told : tells) where
   -- behind a line, and at whatever power lost in it shows
   keeps_line : (counts : List ℕ) (old : PlayerState) (line : Line) (said : List Reply) (blocks : List (List ℕ)) (steps : List Step) (new : PlayerState) (id : ℕ) (bytes : List ℕ) → IsMachine old.machine
-      → old.own ≡ own_client old.machine → GivenNoOther old → IsOwnLine line → LinePlayed tells counts old (played_as line said blocks steps new) → Spares id line → SpareTurns id old.bridge steps
+      → old.own ≡ own_client old.machine → GivenNoOther old → IsOwnLine line → LinePlayed tells counts old (played_as line said blocks steps new) → Spares id line → SpareTurns id old.bridge old.machine steps
       → IsStoredAs id bytes (records_of old.machine)
       → IsStoredAs id bytes (records_of new.machine) × ((s : ℕ) (shown : Records) → ShowsLine s old line steps shown → IsStoredAs id bytes shown)
   keeps_line counts old line said blocks [] new id bytes machine own none is played spares spared there =
@@ -150,7 +160,7 @@ module _ (tells : Type 0) (programs : OwnProgramsRun tells) (told : tells) where
   blocks_of_line : (counts : List ℕ) (old : PlayerState) (line : Played) (s : ℕ) (shown : Records) (spared : ℕ → Type 0) → IsMachine old.machine → old.own ≡ own_client old.machine
       → LinePlayed tells counts old line
       → (changes_of old.machine ≤ s → ShowsLine s old line.line line.steps shown ⊎ ((id : ℕ) (bytes : List ℕ) → spared id → IsStoredAs id bytes (records_of line.left.machine) → IsStoredAs id bytes shown))
-      → (steps : List Step) → line.steps ≡ steps → KeepsBlocks spared s old.bridge steps shown
+      → (steps : List Step) → line.steps ≡ steps → KeepsBlocks spared s old.bridge old.machine steps shown
   blocks_of_line counts old line s shown spared machine own played either [] is = tt
   blocks_of_line counts old line s shown spared machine own played either (step ∷ rest) is =
       elim (line_turns tells counts old line.line line.said line.blocks line.steps line.left played.plays) [

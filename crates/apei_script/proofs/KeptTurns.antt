@@ -1,5 +1,5 @@
 -- A record that is stored stays over turns that spare its identifier.
-use Rattle.std.proofs.Common.{◌≡◌, ◌⊎◌, inl, inr, ℕ, ◌≤◌, nat_le, Bool, true, false, List, [], ◌∷◌, refl, sym, subst, arith}
+use Rattle.std.proofs.Common.{◌≡◌, ◌≢◌, ◌⊎◌, inl, inr, ℕ, ◌≤◌, nat_le, Bool, true, false, List, [], ◌∷◌, refl, sym, subst, arith}
 use Rattle.std.specs.Prelude.{MatchBool}
 use Rattle.std.proofs.lemmas.Bool.{le-leb}
 use Rattle.base_model.proofs.CrashLemmas.{past_grows}
@@ -10,15 +10,34 @@ use Rattle.erst_machine.specs.Shown.{changes_of}
 use Rattle.erst_commands.specs.Attached.{own_client}
 use Rattle.erst_commands.specs.OwnPrograms.{OwnProgramsRun}
 use Rattle.erst_bridge.specs.declared.events.BridgeEvent.TheVariants.{Line as ByReader, Stored as IsStored, Kept, Out}
-use Rattle.erst_bridge.specs.Bridges.{BridgeState, TurnsReader, Stores, Keeps, RunsOut}
+use Rattle.erst_bridge.specs.Bridges.{BridgeState, Holds, TurnsReader, Stores, Keeps, RunsOut}
 use Rattle.erst_bridge.specs.Turns.{Turn, OfFirmware, OfBridge, Step, IsTurn, AreTurns}
 use Rattle.erst_bridge.specs.Shown.{stored_record, ShowsTurns, IsStoredAs, after_turn}
 use Rattle.erst_bridge.proofs.TrailLemmas.{turn_keeps, turn_goes_on, own_on}
 use Rattle.erst_bridge.proofs.CrashLemmas.{turn_records}
 use Rattle.erst_bridge.proofs.KeptRecordLemmas.{other_stays}
 use Rattle.erst_bridge.proofs.ShownLemmas.{one_of, IsBeyond, turn_beyond, stored_turn}
-use Rattle.apei_script.specs.Bridged.{KeepsBlock, KeepsBlocks}
-use Rattle.apei_script.specs.Spares.{SparesTurn, SpareTurns}
+use Rattle.erst_bridge.specs.Prefixes.{next_id}
+use Rattle.apei_script.specs.Bridged.{EachTurn, KeepsBlocks}
+
+-- a turn that does not write an identifier
+abbrev SparesTurn : ℕ → BridgeState → Turn → Type 0
+SparesTurn id state turn = elim turn [
+  | OfBridge (IsStored other) ↦ id ≢ next_id state
+  | OfBridge (Kept error) ↦ id ≢ next_id state
+  | other ↦ Unit {0}
+]
+
+abbrev pub SpareTurns : ℕ → BridgeState → MachineState → List Step → Type 0
+SpareTurns id state old steps = EachTurn (λ bridge before step. SparesTurn id bridge step.turn) state old steps
+
+-- the block of a turn that stored one is kept
+abbrev KeepsBlock : (ℕ → Type 0) → ℕ → BridgeState → Turn → MachineState → Records → Type 0
+KeepsBlock spared s state turn mid shown = elim turn [
+  | OfBridge (IsStored id) ↦
+      (block : List ℕ) × (state ≡ Holds id block) × (spared id → changes_of mid ≤ s → IsStoredAs id (stored_record block id) shown)
+  | other ↦ Unit {0}
+]
 
 module _ (tells : Type 0) (programs : OwnProgramsRun tells) (told : tells) (client : ClientState) (budget : ℕ) where
   kept_turn : (state : BridgeState) (old : MachineState) (turn : Turn) (next : BridgeState) (new : MachineState) (id : ℕ) (bytes : List ℕ)
@@ -34,7 +53,7 @@ module _ (tells : Type 0) (programs : OwnProgramsRun tells) (told : tells) (clie
 
   -- behind the turns, and at whatever they show
   pub kept_turns : (state : BridgeState) (old : MachineState) (steps : List Step) (next : BridgeState) (last : MachineState) (id : ℕ) (bytes : List ℕ) → client ≡ own_client old → IsMachine old
-      → AreTurns tells client budget state old steps next last → SpareTurns id state steps → IsStoredAs id bytes (records_of old)
+      → AreTurns tells client budget state old steps next last → SpareTurns id state old steps → IsStoredAs id bytes (records_of old)
       → IsStoredAs id bytes (records_of last) × ((s : ℕ) (shown : Records) → ShowsTurns s state old steps shown → IsStoredAs id bytes shown)
   kept_turns state old [] next last id bytes own machine are spares there =
       (subst (λ (m : MachineState). IsStoredAs id bytes (records_of m)) (sym are.1) there, λ s shown shows. subst (IsStoredAs id bytes) (sym shows) there)
@@ -68,7 +87,7 @@ module _ (tells : Type 0) (programs : OwnProgramsRun tells) (told : tells) (clie
   ] beyond
 
   beyond_spares : (state : BridgeState) (old : MachineState) (steps : List Step) (next : BridgeState) (last : MachineState) (id : ℕ) → AreTurns tells client budget state old steps next last → IsBeyond id state
-      → SpareTurns id state steps
+      → SpareTurns id state old steps
   beyond_spares state old [] next last id are beyond = tt
   beyond_spares state old (step ∷ rest) next last id are beyond = (
     spares_turn state old step.turn step.bridge step.machine id are.0 beyond,
@@ -111,7 +130,7 @@ module _ (tells : Type 0) (programs : OwnProgramsRun tells) (told : tells) (clie
 
   pub blocks_kept : (spared : ℕ → Type 0) (s : ℕ) (shown : Records) (state : BridgeState) (old : MachineState) (steps : List Step) (next : BridgeState) (last : MachineState)
       → client ≡ own_client old → IsMachine old → AreTurns tells client budget state old steps next last
-      → (changes_of old ≤ s → ShowsOrKeeps spared s shown state old steps last) → KeepsBlocks spared s state steps shown
+      → (changes_of old ≤ s → ShowsOrKeeps spared s shown state old steps last) → KeepsBlocks spared s state old steps shown
   blocks_kept spared s shown state old [] next last own machine are either = tt
   blocks_kept spared s shown state old (step ∷ rest) next last own machine are either =
       let on = (turn_goes_on tells client budget told state old step.turn step.bridge step.machine are.0).1 in

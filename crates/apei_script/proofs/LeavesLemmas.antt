@@ -4,6 +4,7 @@ use Rattle.std.specs.Prelude.{is_none, if◌then◌else◌}
 use Rattle.base_model.specs.Flash.{Told, Leaves}
 use Rattle.base_model.proofs.CrashLemmas.{Leaves-none, Leaves-weaker}
 use Rattle.hex.specs.Hex.{decode_of}
+use Rattle.hex.specs.declared.error.FromHexError.{FromHexError}
 use Rattle.apei_space.specs.Calls.{ReadBytes}
 use Rattle.record_model.specs.Records.{Stored}
 use Rattle.record_model.specs.RecordMap.{Command, Write, Clear, after}
@@ -26,16 +27,29 @@ use Rattle.erst_bridge.specs.Bridges.{BridgeState}
 use Rattle.erst_bridge.specs.Turns.{Step, AreTurns}
 use Rattle.erst_shadow.specs.ShadowCommands.{pieces_in, ShadowWriteAnswered, IsNoRecord as IsNoShadowRecord, IsWritten as IsShadowWritten, ShadowReadAnswered, IsNotRead as IsNotShadowRead, IsNotCopied as IsNotShadowCopied, IsCopied as IsShadowCopied}
 use Rattle.erst_shadow.proofs.CrashLemmas.{change_crash, read_crash, dummy_store}
-use Rattle.script_text.specs.ScriptGrammar.{Line, blank, write, read, clear, count, next, dummy, own_table, shadow_table, reset, power}
+use Rattle.script_text.specs.ScriptGrammar.{Line, blank, write, read, clear, count, next, dummy, own_table, shadow_table, heard, reset, power}
 use Rattle.apei_script.specs.Words.{Reply}
 use Rattle.apei_script.specs.Players.{PlayerState, budget_of, client_of, asker_of}
 use Rattle.apei_script.specs.Asked.{Asked, WritesRecord, ReadsRecord, ClearsRecord, CountsRecords, FindsNext, WritesDummy, RunsAction}
 use Rattle.apei_script.specs.Happened.{Turned, NoTurn, OneMore, Happened, Once, Turn, IsListed}
-use Rattle.apei_script.specs.Mapped.{Mapped, IsWrite, IsRead, IsClear, IsCount, IsNext, IsDummy, after_write, after_line, LineLeaves}
+use Rattle.apei_script.specs.Mapped.{Mapped, IsWrite, IsRead, IsClear, IsCount, IsNext, IsDummy, after_line}
 use Rattle.apei_script.specs.ShadowMapped.{ShadowMapped, ShadowWrite, ShadowRead, ShadowClear, ShadowCount, ShadowNext, ShadowPlayed}
 use Rattle.apei_script.specs.Bridged.{ByBridge, Enters, StaysAs, BridgesTurns}
 use Rattle.apei_script.proofs.OneEvent.{IsQuiet, once}
 use Rattle.apei_script.specs.Plays.{Plays, Blank, ByClient, GivenTable, OwnTable, GivenShadow, OnMachine, ByTheBridge, OnlyTells, Reset, Power, names_command, IsOwnLine, played_as}
+
+-- the records as the write of some bytes leaves them where nothing fails
+abbrev pub after_write : ℕ → MachineState → Result (List ℕ) FromHexError → Stored
+after_write range state decoded = elim decoded [
+  | Ok bytes ↦
+      if is_none (write_refusal bytes range) then after state.device.store.layout (Write (id_of bytes) (marked bytes)) (records_of state)
+      else records_of state
+  | Err error ↦ records_of state
+]
+
+-- power lost in a line leaves the records from before it, or as it leaves them where nothing fails
+abbrev pub LineLeaves : ℕ → MachineState → Line → MachineState → Type 0
+LineLeaves range old line new = Leaves (told_of old) (told_of new) (λ image. (shown_by old image ≡ records_of old) ⊎ (shown_by old image ≡ after_line range old line))
 
 -- the flash tells what it told
 stays : (range : ℕ) (old : MachineState) (line : Line) (new : MachineState) → told_of new ≡ told_of old → LineLeaves range old line new
@@ -234,10 +248,10 @@ line_leaves tells told range counts old line said blocks steps new plays =
       | ByClient line words machine commanded ↦ λ unmade maps own. maps (asks_command tells (client_of old) (budget_of old) old.machine line words machine commanded.asked own)
       | GivenTable hex bytes words machine other decoded gives ↦ λ unmade maps own. absurd own
       | OwnTable ↦ λ unmade maps own. stays range old.machine own_table old.machine refl
-      | GivenShadow machine gives ↦ λ unmade maps own. stays range old.machine shadow_table machine (ap told_of gives.attached.last_is)
+      | GivenShadow left machine attaches attached reaches ↦ λ unmade maps own. stays range old.machine shadow_table machine (ap told_of attached.last_is)
       | OnMachine line said blocks machine alone happened ↦ λ unmade maps own. stays range old.machine line machine (happened_told tells old.machine line said blocks machine happened)
       | ByTheBridge line said blocks steps bridge_now machine by ↦ λ unmade maps own. stays range old.machine line machine (bridge_told tells old line said blocks steps bridge_now machine by unmade)
-      | OnlyTells line words told ↦ λ unmade maps own. stays range old.machine line old.machine refl
+      | OnlyTells ↦ λ unmade maps own. stays range old.machine heard old.machine refl
       | Reset n machine warms ↦ λ unmade maps own. keeps range old.machine reset machine (warms.leaves.kept told)
       | Power n machine powers ↦ λ unmade maps own. keeps range old.machine power machine (powers.restarts.leaves.kept told)
     ]

@@ -1,5 +1,6 @@
 -- What was played, by the line.
-use Rattle.std.proofs.Common.{◌≡◌, ◌⊎◌, inl, inr, ℕ, Bool, true, false, List, [], ◌∷◌, ◌++◌, length, map, Option, Some, None, Result, Ok, Err, refl, sym, subst}
+use Rattle.std.proofs.Common.{◌≡◌, ◌⊎◌, inl, inr, ℕ, Bool, true, false, List, [], ◌∷◌, ◌++◌, decimal, length, map, Option, Some, None, Result, Ok, Err, refl, sym, subst}
+use Rattle.std.specs.Prelude.{codes}
 use Rattle.hex.specs.Hex.{decode_of}
 use Rattle.ghes_block.specs.Region.{IsLaidOut}
 use Rattle.ghes_ack.specs.declared.events.Event.{Event as TurnEvent}
@@ -20,19 +21,28 @@ use Rattle.erst_machine.specs.Events.{Event, Warms, Powers, Happens}
 use Rattle.erst_bridge.specs.Bridges.{BridgeState, Off, Awaits}
 use Rattle.erst_bridge.specs.Turns.{Step, AreTurns}
 use Rattle.erst_bridge.specs.Made.{sides_in}
-use Rattle.script_text.specs.ScriptGrammar.{Line, blank, write, read, clear, count, next, dummy, action, table, own_table, shadow_table, turns, bert, reset, power, bridge}
+use Rattle.script_text.specs.ClientWords.{words_of_attach}
+use Rattle.script_text.specs.TableWords.{words_of_erst}
+use Rattle.script_text.specs.ScriptGrammar.{Line, blank, write, read, clear, count, next, dummy, action, table, own_table, shadow_table, turns, bert, heard, reset, power, bridge}
 use Rattle.erst_shadow.specs.ShadowTables.{shadow_count}
 use Rattle.erst_shadow.specs.ShadowCommands.{shadow_client}
-use Rattle.apei_script.specs.Players.{PlayerState, client_of, budget_of, with_machine, asker_in}
-use Rattle.apei_script.specs.Words.{Reply, said_at, refused, words_of_write, words_of_read, words_of_clear, words_of_count, words_of_next, words_of_dummy, words_of_action, words_of_table, words_of_no_table, words_of_no_client, words_of_turns, words_of_block, words_of_bert, words_of_reset, words_of_power}
+use Rattle.apei_script.specs.Players.{PlayerState, client_of, budget_of, asker_of}
+use Rattle.apei_script.specs.Words.{Reply, said_at, refused, words_of_write, words_of_read, words_of_clear, words_of_count, words_of_next, words_of_dummy, words_of_action, words_of_table, words_of_turns, words_of_heard, words_of_block, words_of_bert}
 use Rattle.apei_script.specs.Asked.{READ_BUFFER, Asked, WritesRecord, ReadsRecord, ClearsRecord, CountsRecords, FindsNext, WritesDummy, RunsAction}
-use Rattle.apei_script.specs.Tables.{ATTACH_STEPS, BeginsWith, GivesTable, IsNoTable, IsNotAttached, IsAttached, GivesShadow}
+use Rattle.apei_script.specs.Tables.{ATTACH_STEPS, BeginsWith, GivesTable, IsNoTable, IsNotAttached, IsAttached}
+use Rattle.apei_script.proofs.ShadowGiving.{GivesShadow}
 use Rattle.apei_script.specs.Happened.{AsksFor, Happened, Once, Turn, IsListed}
 use Rattle.script_text.specs.Turns.{side_of}
-use Rattle.apei_script.specs.Bridged.{bridge_refusal, words_of_bridge, replies_of, blocks_in, NeedsNoBridge, ByBridge, Enters, StaysAs, BridgesTurns}
-use Rattle.apei_script.specs.Plays.{words_told, Plays, Blank, ByClient, GivenTable, OwnTable, GivenShadow, OnMachine, ByTheBridge, OnlyTells, Reset, Power, restarted, changes_in, step_of, played_as}
+use Rattle.apei_script.specs.Bridged.{bridge_refusal, replies_of, ByBridge, Enters, StaysAs, BridgesTurns}
+use Rattle.apei_script.specs.Plays.{Plays, Blank, ByClient, GivenTable, OwnTable, GivenShadow, OnMachine, ByTheBridge, OnlyTells, Reset, Power, changes_in, step_of, played_as}
+use Rattle.apei_script.proofs.PlayLemmas.{with_machine}
 use Rattle.apei_script.proofs.TurnsAlike.{TurnsBy, turns_by}
-use Rattle.apei_script.proofs.OneEvent.{asks_once, once}
+use Rattle.apei_script.proofs.OneEvent.{words_told, NeedsNoBridge, asks_once, once}
+use Rattle.apei_script.proofs.BridgeLemmas.{blocks_in}
+
+-- a player behind a restart
+abbrev pub restarted : MachineState → PlayerState → PlayerState
+restarted machine old = record old { machine = machine; other = None; bridge = Off }
 
 -- what a line left
 pub record Left (said : List Reply) (blocks : List (List ℕ)) (new : PlayerState) (replies : List Reply) (taken : List (List ℕ)) (player : PlayerState) : Type 0 where
@@ -70,14 +80,14 @@ module _ (tells : Type 0) where
   -- a table that was given, and what it came to
   abbrev pub words_of_given : Erst → Result ClientState AttachError → List ℕ
   words_of_given erst (Ok client) = words_of_table (length erst.entries)
-  words_of_given erst (Err why) = words_of_no_client why
+  words_of_given erst (Err why) = refused (words_of_attach why)
 
   abbrev pub other_after : Option ClientState → Result ClientState AttachError → Option ClientState
   other_after other (Ok client) = Some client
   other_after other (Err why) = other
 
   pub data Given (old : MachineState) (other : Option ClientState) (bytes words : List ℕ) (new : MachineState) (other_now : Option ClientState) : Type 0 where
-    NoTable : (why : ErstError) → refusal bytes ≡ Some why → words ≡ words_of_no_table why → new ≡ old → other_now ≡ other → Given old other bytes words new other_now
+    NoTable : (why : ErstError) → refusal bytes ≡ Some why → words ≡ refused (codes "table " ++ words_of_erst why) → new ≡ old → other_now ≡ other → Given old other bytes words new other_now
     Tried : (erst : Erst) (result : Result ClientState AttachError) (left : ℕ) → BeginsWith erst bytes → Attaches (Allows tells) erst ATTACH_STEPS old result left new
         → words ≡ words_of_given erst result → other_now ≡ other_after other result → Given old other bytes words new other_now
 
@@ -111,7 +121,7 @@ module _ (tells : Type 0) where
 
   -- the bridge was turned on, or not
   pub data Entered (old : PlayerState) (id : ℕ) (said : List Reply) (blocks : List (List ℕ)) (new : PlayerState) : Type 0 where
-    TurnedOn : bridge_refusal old id ≡ None → Left said blocks new (said_at (changes_in old.machine) (words_of_bridge id ∷ [])) [] (record old { bridge = Awaits id }) → Entered old id said blocks new
+    TurnedOn : bridge_refusal old id ≡ None → Left said blocks new (said_at (changes_in old.machine) ((codes "bridge " ++ decimal id) ∷ [])) [] (record old { bridge = Awaits id }) → Entered old id said blocks new
     NotOn : (why : List ℕ) → bridge_refusal old id ≡ Some why → Left said blocks new (said_at (changes_in old.machine) (refused why ∷ [])) [] old → Entered old id said blocks new
 
   abbrev pub ByOneEvent : PlayerState → Line → List Reply → List (List ℕ) → PlayerState → Type 0
@@ -138,9 +148,9 @@ module _ (tells : Type 0) where
   PlaysOther old (turns letters) said blocks new = ((old.bridge ≡ Off) × ByItself old (turns letters) said blocks new) ⊎ ByBridgeTurns old letters said blocks new
   PlaysOther old bert said blocks new = ByItself old bert said blocks new
   PlaysOther old reset said blocks new = (n : ℕ) × (machine : MachineState) × Warms tells old.machine (Ok n) machine
-      × Left said blocks new (said_at (changes_in machine) (words_of_reset n ∷ [])) [] (restarted machine old)
+      × Left said blocks new (said_at (changes_in machine) ((codes "reset " ++ decimal n) ∷ [])) [] (restarted machine old)
   PlaysOther old power said blocks new = (n : ℕ) × (machine : MachineState) × Powers tells old.machine (Ok n) machine
-      × Left said blocks new (said_at (changes_in machine) (words_of_power n ∷ [])) [] (restarted machine old)
+      × Left said blocks new (said_at (changes_in machine) ((codes "power " ++ decimal n) ∷ [])) [] (restarted machine old)
   PlaysOther old (bridge id) said blocks new = Entered old id said blocks new
   PlaysOther old line said blocks new = ⊥
 
@@ -156,7 +166,7 @@ module _ (tells : Type 0) where
   as_it_is : (said : List Reply) (blocks : List (List ℕ)) (new : PlayerState) → Left said blocks new said blocks new
   as_it_is said blocks new = record { said_is = refl; blocks_are = refl; new_is = refl }
 
-  by_its_client : (counts : List ℕ) (old : PlayerState) (line : Line) (words : List ℕ) (machine : MachineState) → Asked tells (asker_in old) old.machine line words machine
+  by_its_client : (counts : List ℕ) (old : PlayerState) (line : Line) (words : List ℕ) (machine : MachineState) → Asked tells (asker_of (client_of old) (budget_of old)) old.machine line words machine
       → PlaysBy counts old line (said_at (changes_in machine) (words ∷ [])) [] (with_machine machine old)
   by_its_client counts old line words machine asked = elim asked as (λ line words machine asked. PlaysBy counts old line (said_at (changes_in machine) (words ∷ [])) [] (with_machine machine old)) [
     | WritesRecord hex bytes result left new decoded writes ↦ (words_of_write bytes result, new, (bytes, result, left, decoded, refl, writes), as_it_is _ _ _)
@@ -204,10 +214,10 @@ module _ (tells : Type 0) where
     | ByClient line words machine commanded ↦ by_its_client counts old line words machine commanded.asked
     | GivenTable hex bytes words machine other decoded gives ↦ (bytes, words, machine, other, decoded, given_by old.machine old.other bytes words machine other gives, as_it_is _ _ _)
     | OwnTable ↦ as_it_is _ _ _
-    | GivenShadow machine gives ↦ (machine, gives, as_it_is _ _ _)
+    | GivenShadow left machine attaches attached reaches ↦ (machine, record { left = left; attaches = attaches; attached = attached; reaches = reaches }, as_it_is _ _ _)
     | OnMachine line said blocks machine alone happened ↦ by_itself counts old line said blocks machine alone happened
     | ByTheBridge line said blocks steps bridge_now machine by ↦ by_bridge counts old line said blocks steps bridge_now machine by
-    | OnlyTells line words told ↦ by_telling counts old line words told
+    | OnlyTells ↦ by_telling counts old heard (words_of_heard counts) refl
     | Reset n machine warms ↦ (n, machine, warms, as_it_is _ _ _)
     | Power n machine powers ↦ (n, machine, powers, as_it_is _ _ _)
   ]

@@ -57,10 +57,10 @@ module _ (tells : Type 0) where
     | ByClient line words machine commanded ↦ reached_happens tells old.machine machine commanded.reaches
     | GivenTable hex bytes words machine other decoded gives ↦ of_table old.machine old.other bytes words machine other gives
     | OwnTable ↦ no_moves tells old.machine
-    | GivenShadow machine gives ↦ reached_happens tells old.machine machine gives.reaches
+    | GivenShadow left machine attaches attached reaches ↦ reached_happens tells old.machine machine reaches
     | OnMachine line said blocks machine alone happened ↦ of_happened old.machine line said blocks machine happened
     | ByTheBridge line said blocks steps next machine by ↦ of_bridge old line said blocks steps next machine by
-    | OnlyTells line words told ↦ no_moves tells old.machine
+    | OnlyTells ↦ no_moves tells old.machine
     | Reset n machine warms ↦ one_move tells old.machine (Warmed (Ok n)) machine warms
     | Power n machine powers ↦ one_move tells old.machine (Powered (Ok n)) machine powers
   ]
@@ -102,10 +102,10 @@ module _ (tells : Type 0) where
     | ByClient line words machine commanded ↦ (refl, refl)
     | GivenTable hex bytes words machine other decoded gives ↦ (refl, refl)
     | OwnTable ↦ (refl, refl)
-    | GivenShadow machine gives ↦ (refl, refl)
+    | GivenShadow left machine attaches attached reaches ↦ (refl, refl)
     | OnMachine line said blocks machine alone happened ↦ (refl, refl)
     | ByTheBridge line said blocks steps next machine by ↦ (refl, refl)
-    | OnlyTells line words told ↦ (refl, refl)
+    | OnlyTells ↦ (refl, refl)
     | Reset n machine warms ↦ (refl, refl)
     | Power n machine powers ↦ (refl, refl)
   ]

@@ -3,7 +3,7 @@ use Rattle.std.proofs.Common.{◌≡◌, ◌∙◌, ℕ, List, [], ◌∷◌, Ok
 use Rattle.base_model.specs.Flash.{image_at}
 use Rattle.base_model.proofs.CrashLemmas.{image_at-later, image_at-now}
 use Rattle.erst_client.specs.Commands.{ClientState}
-use Rattle.erst_machine.specs.MachineState.{MachineState, IsMachine, told_of}
+use Rattle.erst_machine.specs.MachineState.{MachineState, IsMachine, records_of, told_of}
 use Rattle.erst_machine.specs.Shown.{changes_of, shown_by}
 use Rattle.erst_machine.proofs.CrashTrail.{shown_alike}
 use Rattle.erst_commands.specs.Attached.{own_client}
@@ -13,21 +13,21 @@ use Rattle.erst_bridge.specs.Bridges.{BridgeState, TurnsReader, Stores, Keeps, R
 use Rattle.erst_bridge.specs.Turns.{Turn, OfFirmware, OfBridge, Step, IsTurn, AreTurns}
 use Rattle.erst_bridge.proofs.TrailLemmas.{turn_keeps, turn_goes_on, turns_go_on, own_on}
 use Rattle.erst_bridge.proofs.CrashLemmas.{own_write}
-use Rattle.apei_script.specs.Bridged.{TurnIsMapped, TurnsAreMapped, ShowsEachTurn}
+use Rattle.apei_script.specs.Bridged.{EachTurn, TurnIsMapped}
 
 module _ (tells : Type 0) (programs : OwnProgramsRun tells) (told : tells) (client : ClientState) (budget : ℕ) where
   turn_mapped : (state : BridgeState) (old : MachineState) (turn : Turn) (next : BridgeState) (new : MachineState) → client ≡ own_client old → IsMachine old
-      → IsTurn tells client budget state old turn next new → TurnIsMapped budget state old turn new
+      → IsTurn tells client budget state old turn next new → TurnIsMapped budget state old (record { turn = turn; bridge = next; machine = new })
   turn_mapped state old (OfFirmware event) next new own machine is = is.1.device
-  turn_mapped state old (OfBridge event) next new own machine is = elim is.1 as (λ state event after turn. TurnIsMapped budget state old (OfBridge event) after.station) [
+  turn_mapped state old (OfBridge event) next new own machine is = elim is.1 as (λ state event after turn. TurnIsMapped budget state old (record { turn = OfBridge event; bridge = after.bridge; machine = after.station })) [
     | TurnsReader id bridge event new none reads ↦ reads.device
-    | Stores id block left new small writes ↦ (left, own_write tells programs told client budget old own machine (bridged block id) (Ok tt) left new writes)
-    | Keeps id block error left new small writes ↦ (left, own_write tells programs told client budget old own machine (bridged block id) (Err error) left new writes)
+    | Stores id block left new small writes ↦ (block, left, refl, own_write tells programs told client budget old own machine (bridged block id) (Ok tt) left new writes)
+    | Keeps id block error left new small writes ↦ (id, block, left, refl, own_write tells programs told client budget old own machine (bridged block id) (Err error) left new writes)
     | RunsOut id block last ↦ refl
   ]
 
   pub turns_mapped : (state : BridgeState) (old : MachineState) (steps : List Step) (next : BridgeState) (last : MachineState) → client ≡ own_client old → IsMachine old
-      → AreTurns tells client budget state old steps next last → TurnsAreMapped budget state old steps
+      → AreTurns tells client budget state old steps next last → EachTurn (TurnIsMapped budget) state old steps
   turns_mapped state old [] next last own machine are = tt
   turns_mapped state old (step ∷ rest) next last own machine (first, behind) =
       let own_now = own_on tells client budget told state old step.turn step.bridge step.machine first own in
@@ -37,7 +37,7 @@ module _ (tells : Type 0) (programs : OwnProgramsRun tells) (told : tells) (clie
 -- the image at the step at which a turn ended is the one that the turn left
 module _ (tells : Type 0) (client : ClientState) (budget : ℕ) (told : tells) where
   pub turns_end : (state : BridgeState) (old : MachineState) (steps : List Step) (next : BridgeState) (last : MachineState)
-      → AreTurns tells client budget state old steps next last → ShowsEachTurn last old steps
+      → AreTurns tells client budget state old steps next last → EachTurn (λ bridge before step. shown_by before (image_at (told_of last) (changes_of step.machine)) ≡ records_of step.machine) state old steps
   turns_end state old [] next last are = tt
   turns_end state old (step ∷ rest) next last (first, behind) =
       let left = step.machine in

@@ -1,5 +1,5 @@
 -- Lines that ask for one thing that happens to the machine.
-use Rattle.std.proofs.Common.{◌≡◌, ℕ, Bool, true, false, List, [], length, replicate, None, Result, Ok, Err, refl, sym, ap, ◌∙◌}
+use Rattle.std.proofs.Common.{◌≡◌, ℕ, Bool, true, false, List, [], length, replicate, Option, Some, None, Result, Ok, Err, refl, sym, ap, ◌∙◌}
 use Rattle.hex.specs.Hex.{decode_of}
 use Rattle.hex.specs.declared.error.FromHexError.{FromHexError}
 use Rattle.apei_space.specs.declared.faults.SpaceFault.{SpaceFault}
@@ -8,11 +8,12 @@ use Rattle.ghes_ack.specs.declared.submission.SubmitError.{SubmitError}
 use Rattle.erst_machine.specs.declared.errors.FatalError.{FatalError}
 use Rattle.erst_machine.specs.Events.{Event, Accessed, Submitted, Laid}
 use Rattle.erst_commands.specs.Equivalence.{bytes_shown, asked_event, answered_event}
-use Rattle.script_text.specs.ScriptGrammar.{Line, error, peek, fatal}
+use Rattle.erst_bridge.specs.Bridges.{BridgeState, Off}
+use Rattle.script_text.specs.ScriptGrammar.{Line, error, peek, fatal, turns, heard}
 use Rattle.apei_script.specs.Players.{PlayerState}
-use Rattle.apei_script.specs.Words.{words_of_submission, words_of_peek, words_of_laid}
+use Rattle.apei_script.specs.Words.{words_of_heard, words_of_submission, words_of_peek, words_of_laid}
 use Rattle.apei_script.specs.Happened.{AsksFor}
-use Rattle.apei_script.specs.Plays.{words_told, names_command}
+use Rattle.apei_script.specs.Plays.{names_command}
 
 -- it leaves the flash alone, and what the bridge knows of the handover
 abbrev pub IsQuiet : Event → Type 0
@@ -20,6 +21,15 @@ IsQuiet (Accessed (ReadBytes at before after answer)) = Unit {0}
 IsQuiet (Submitted block result) = Unit {0}
 IsQuiet (Laid block result) = Unit {0}
 IsQuiet event = ⊥
+
+-- the words of a line that only tells something of the listeners
+abbrev pub words_told : List ℕ → PlayerState → Line → Option (List ℕ)
+words_told counts old heard = Some (words_of_heard counts)
+words_told counts old line = None
+
+-- turns are made without the bridge where it is off
+abbrev pub NeedsNoBridge : BridgeState → Line → Type 0
+NeedsNoBridge state line = elim line as (λ line. Type 0) [ turns letters ↦ state ≡ Off | other ↦ Unit {0} ]
 
 -- a line asks for it alone
 abbrev pub asks_once : Line → Bool

@@ -25,11 +25,11 @@ use Rattle.apei_script.specs.Players.{PlayerState, budget_of}
 use Rattle.apei_script.specs.Words.{Reply}
 use Rattle.apei_script.specs.Tables.{GivesTable, IsNoTable, IsNotAttached, IsAttached}
 use Rattle.apei_script.specs.Happened.{Happened, Once, Turn as TurnLine, IsListed}
-use Rattle.apei_script.specs.Bridged.{is_on, bridge_refusal, NeedsNoBridge, ByBridge, Enters, StaysAs, BridgesTurns}
+use Rattle.apei_script.specs.Bridged.{bridge_refusal, ByBridge, Enters, StaysAs, BridgesTurns}
 use Rattle.apei_script.specs.Plays.{Plays, Blank, ByClient, GivenTable, OwnTable, GivenShadow, OnMachine, ByTheBridge, OnlyTells, Reset, Power, played_as}
 use Rattle.apei_script.specs.History.{Played, heard_after, Follows}
 use Rattle.apei_script.specs.Orders.{IsInStep, AlwaysInStep}
-use Rattle.apei_script.proofs.OneEvent.{IsQuiet, once}
+use Rattle.apei_script.proofs.OneEvent.{IsQuiet, NeedsNoBridge, once}
 
 -- off, or in step
 abbrev InStep : BridgeState → MachineState → Type 0
@@ -78,13 +78,16 @@ enters_step : (old : PlayerState) (id : ℕ) → IsMachine old.machine → bridg
 enters_step old id machine none =
     let m = machine.stands.0 in
     let stands = machine.stands.1 in
-    (m, record { stands = stands; step = idle_taken m m.situation stands.state.holds (ap is_idle stands.situation ∙ not_refused (is_reserved id) (is_on old.bridge) (is_idle old.machine.handover.situation) _ _ _ none) })
+    (m, record { stands = stands; step = idle_taken m m.situation stands.state.holds (ap is_idle stands.situation ∙ not_refused (is_reserved id) old.bridge (is_idle old.machine.handover.situation) _ _ _ none) })
   where
-    not_refused : (a b c : Bool) (x y z : List ℕ) → (if a then Some x else (if b then Some y else (if not c then Some z else None))) ≡ None → c ≡ true
-    not_refused true b c x y z e = absurd (cc e)
-    not_refused false true c x y z e = absurd (cc e)
-    not_refused false false true x y z e = refl
-    not_refused false false false x y z e = absurd (cc e)
+    not_refused : (a : Bool) (state : BridgeState) (c : Bool) (x y z : List ℕ)
+        → (if a then Some x else elim state [ Off ↦ if not c then Some z else None | on ↦ Some y ]) ≡ None → c ≡ true
+    not_refused true state c x y z e = absurd (cc e)
+    not_refused false Off true x y z e = refl
+    not_refused false Off false x y z e = absurd (cc e)
+    not_refused false (Awaits id) c x y z e = absurd (cc e)
+    not_refused false (Holds id block) c x y z e = absurd (cc e)
+    not_refused false (Releases id) c x y z e = absurd (cc e)
 
 module _ (tells : Type 0) where
   reached : (state : BridgeState) (old new : MachineState) → Reaches (Allows tells) old new → InStep state old → InStep state new
@@ -134,10 +137,10 @@ module _ (tells : Type 0) where
     | ByClient line words now commanded ↦ (tt, reached old.bridge old.machine now commanded.reaches step)
     | GivenTable hex bytes words now other decoded gives ↦ (tt, table_step old.bridge old.machine old.other bytes words now other gives step)
     | OwnTable ↦ (tt, step)
-    | GivenShadow now gives ↦ (tt, reached old.bridge old.machine now gives.reaches step)
+    | GivenShadow left now attaches attached reaches ↦ (tt, reached old.bridge old.machine now reaches step)
     | OnMachine line words blocks now alone happened ↦ (tt, happened_step old.bridge old.machine line words blocks now happened alone step)
     | ByTheBridge line said blocks steps next now by ↦ bridge_step old line said blocks steps next now machine by step
-    | OnlyTells line words told ↦ (tt, step)
+    | OnlyTells ↦ (tt, step)
     | Reset n now warms ↦ (tt, inl refl)
     | Power n now powers ↦ (tt, inl refl)
   ]

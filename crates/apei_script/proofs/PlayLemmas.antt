@@ -11,14 +11,19 @@ use Rattle.script_text.specs.ScriptGrammar.{Line, blank, bert, heard}
 use Rattle.apei_notify.specs.Telling.{Hearing, counts_of}
 use Rattle.script_lines.specs.Streams.{stream_of}
 use Rattle.apei_script.specs.declared.session.Session.{Session}
-use Rattle.apei_script.specs.Players.{PlayerState, budget_of, client_of, with_machine}
+use Rattle.apei_script.specs.Players.{PlayerState, budget_of, client_of}
 use Rattle.apei_script.specs.Words.{Reply, at_step, said_at, words_of_heard, reply_at, replies_at}
-use Rattle.apei_script.specs.Bridged.{NeedsNoBridge, TurnsShown}
+use Rattle.apei_script.specs.Bridged.{TurnsShown}
+use Rattle.apei_script.proofs.OneEvent.{NeedsNoBridge}
 use Rattle.apei_script.specs.Plays.{Plays, Blank, OnMachine, OnlyTells, LinePlayed, PlaysLine, PlaysUnwritten, Occurred, OccurredUnwritten, LeftIn, AtLast, InList, InTurns, InBridged, names_command, step_of, stage_in, played_as, one_reply}
 use Rattle.apei_script.specs.Sessions.{state_of, SameClients, Lists, ListsUnwritten, LineAnswered, MakesReply}
 use Rattle.apei_script.proofs.LineLemmas.{line_happened}
 use Rattle.apei_script.proofs.LeavesLemmas.{line_leaves}
 use Rattle.apei_notify.proofs.ToldLemmas.{told_none}
+
+-- a player with another machine
+abbrev pub with_machine : MachineState → PlayerState → PlayerState
+with_machine machine state = record state { machine = machine }
 
 -- a line that is no command on records
 pub quiet_with : (tells : Type 0) (counts : List ℕ) (old : PlayerState) (line : Line) (said : List Reply) (blocks : List (List ℕ)) (steps : List Step) (new : PlayerState) → names_command line ≡ false → Plays tells counts old (played_as line said blocks steps new)
@@ -207,7 +212,7 @@ module _ {L : Type 0} (hearing : L → Hearing) (tells told_sink : Type 0) where
 
   heard_line : (old new : PlayerState) (members : List L) → new ≡ old → LinePlayed tells (counts_of hearing members) old (one_reply heard (words_of_heard (counts_of hearing members)) new)
   heard_line old new members same = quiet tells (counts_of hearing members) old heard (said_at (step_of new) (words_of_heard (counts_of hearing members) ∷ [])) [] new refl
-      (subst (λ (s : PlayerState). Plays tells (counts_of hearing members) old (one_reply heard (words_of_heard (counts_of hearing members)) s)) (sym same) (OnlyTells heard (words_of_heard (counts_of hearing members)) refl))
+      (subst (λ (s : PlayerState). Plays tells (counts_of hearing members) old (one_reply heard (words_of_heard (counts_of hearing members)) s)) (sym same) OnlyTells)
 
   pub heard_played : (old new : PlayerState) (members : List L) (written written_now : List ℕ) → new ≡ old
       → (told_sink → written_now ≡ written ++ reply_at (step_of old) (words_of_heard (counts_of hearing members)))

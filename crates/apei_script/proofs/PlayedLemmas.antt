@@ -1,7 +1,6 @@
 -- One line that was played.
-use Rattle.std.proofs.Common.{◌≡◌, inl, inr, ℕ, ◌≤◌, true, List, [], ◌∷◌, Some, refl, sym, ap, subst, ◌∙◌}
+use Rattle.std.proofs.Common.{◌≡◌, inl, inr, ℕ, ◌≤◌, true, List, [], ◌∷◌, refl, sym, ap, subst, ◌∙◌}
 use Rattle.std.proofs.lemmas.Bool.{false≢true}
-use Rattle.std.proofs.lemmas.Option.{none-some}
 use Rattle.erst_client.specs.Commands.{ClientState}
 use Rattle.erst_client.specs.Timings.{enough_steps}
 use Rattle.erst_machine.specs.MachineState.{MachineState, IsMachine}
@@ -10,21 +9,20 @@ use Rattle.erst_commands.specs.Attached.{own_client}
 use Rattle.erst_shadow.specs.ShadowCommands.{shadow_client}
 use Rattle.erst_bridge.specs.Bridges.{BridgeState}
 use Rattle.erst_bridge.specs.Turns.{Step}
-use Rattle.script_text.specs.ScriptGrammar.{Line, IsValid, write, read, clear, count, next as next_line, dummy}
+use Rattle.script_text.specs.ScriptGrammar.{Line, IsValid}
 use Rattle.base_model.specs.Faults.{Rose}
-use Rattle.apei_script.specs.Players.{PlayerState, client_of, budget_of, UsesOwn, UsesShadow, UsesEither, asker_of, asker_in}
-use Rattle.apei_script.specs.Mapped.{LineLeaves}
+use Rattle.apei_script.specs.Players.{PlayerState, client_of, budget_of, UsesOwn, UsesShadow, UsesEither, asker_of}
 use Rattle.apei_script.specs.Words.{Reply, said_at, words_in}
 use Rattle.apei_script.specs.Asked.{Asked}
 use Rattle.apei_script.specs.Happened.{Happened, Once, Turn, IsListed}
 use Rattle.apei_script.specs.Bridged.{ByBridge, Enters, StaysAs, BridgesTurns}
-use Rattle.apei_script.specs.Plays.{Plays, Blank, ByClient, GivenTable, OwnTable, GivenShadow, OnMachine, ByTheBridge, OnlyTells, Reset, Power, words_told, names_command, SaysHardware, LinePlayed, step_of, played_as}
+use Rattle.apei_script.specs.Plays.{Plays, Blank, ByClient, GivenTable, OwnTable, GivenShadow, OnMachine, ByTheBridge, OnlyTells, Reset, Power, names_command, SaysHardware, LinePlayed, step_of, played_as}
 use Rattle.apei_script.proofs.OneEvent.{once}
 use Rattle.apei_script.proofs.LineLemmas.{line_happened}
 use Rattle.apei_script.proofs.OwnClientLemmas.{no_command, asked_by_map, asked_cause}
 use Rattle.apei_script.proofs.EnoughSteps.{SaysNeither, asked_through}
 use Rattle.apei_script.proofs.ShadowClientLemmas.{shadow_by_map, shadow_cause, shadow_through}
-use Rattle.apei_script.proofs.LeavesLemmas.{mapped_leaves, shadow_mapped_leaves, line_leaves}
+use Rattle.apei_script.proofs.LeavesLemmas.{LineLeaves, mapped_leaves, shadow_mapped_leaves, line_leaves}
 use Rattle.apei_script.proofs.BridgeLemmas.{line_turned}
 
 -- the first of some replies
@@ -36,17 +34,7 @@ first_of (words ∷ rest) = words
 record AsksClient (tells : Type 0) (old : PlayerState) (line : Line) (said : List Reply) (new : PlayerState) : Type 0 where
   words : List ℕ
   said_is : said ≡ said_at (step_of new) (words ∷ [])
-  asked : Asked tells (asker_in old) old.machine line words new.machine
-
--- a line that only tells is none
-no_telling : {Goal : Type 0} (counts : List ℕ) (old : PlayerState) (line : Line) (words : List ℕ) → words_told counts old line ≡ Some words → names_command line ≡ true → Goal
-no_telling counts old (write hex) words told names = absurd (none-some words told)
-no_telling counts old (read id) words told names = absurd (none-some words told)
-no_telling counts old (clear id) words told names = absurd (none-some words told)
-no_telling counts old count words told names = absurd (none-some words told)
-no_telling counts old next_line words told names = absurd (none-some words told)
-no_telling counts old dummy words told names = absurd (none-some words told)
-no_telling counts old line words told names = no_command names
+  asked : Asked tells (asker_of (client_of old) (budget_of old)) old.machine line words new.machine
 
 module _ (tells : Type 0) where
   no_happening : {Goal : Type 0} (old : MachineState) (line : Line) (said blocks : List (List ℕ)) (new : MachineState) → Happened tells old line said blocks new → names_command line ≡ true → Goal
@@ -71,10 +59,10 @@ module _ (tells : Type 0) where
     | ByClient line words machine commanded ↦ λ names. record { words = words; said_is = refl; asked = commanded.asked }
     | GivenTable hex bytes words machine other decoded gives ↦ λ names. no_command names
     | OwnTable ↦ λ names. no_command names
-    | GivenShadow machine gives ↦ λ names. no_command names
+    | GivenShadow left machine attaches attached reaches ↦ λ names. no_command names
     | OnMachine line said blocks machine alone happened ↦ λ names. no_happening old.machine line said blocks machine happened names
     | ByTheBridge line said blocks steps next machine by ↦ λ names. no_bridging old line said blocks steps next machine by names
-    | OnlyTells line words told ↦ λ names. no_telling counts old line words told names
+    | OnlyTells ↦ λ names. no_command names
     | Reset n machine warms ↦ λ names. no_command names
     | Power n machine powers ↦ λ names. no_command names
   ]
@@ -130,7 +118,7 @@ module _ (tells : Type 0) where
         enough = λ uses names many.
             let a = asks_own names in
             let neither = says_neither own old line said new machine uses a many valid names in
-            (λ says. neither.not_stopped says.0 (ap first_of (ap words_in (sym a.said_is) ∙ says.1)), λ says. neither.in_time says.0 (ap first_of (ap words_in (sym a.said_is) ∙ says.1)));
+            (λ why says. neither.not_stopped why (ap first_of (ap words_in (sym a.said_is) ∙ says)), λ waited says. neither.in_time waited (ap first_of (ap words_in (sym a.said_is) ∙ says)));
         leaves = λ told uses own_line none.
             line_leaves tells told (client_of old).range counts old line said blocks steps new plays none
             (λ names. command_leaves own old line said new machine told (uses names) (asks_own names) valid names) own_line;

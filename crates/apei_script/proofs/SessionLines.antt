@@ -1,6 +1,6 @@
 -- Lines of one reply, as a session carries them out.
 use Rattle.std.specs.Prelude.{not, if◌then◌else◌, codes}
-use Rattle.std.proofs.Common.{◌≡◌, ℕ, ◌≤◌, ◌↔◌, ◌∙◌, ap, Bool, true, false, IsTrue, List, [], ◌∷◌, length, take, Option, Some, None, Result, Ok, Err, refl, sym, subst}
+use Rattle.std.proofs.Common.{◌≡◌, ℕ, ◌≤◌, ◌↔◌, ◌∙◌, ap, Bool, true, false, IsTrue, List, [], ◌∷◌, ◌++◌, decimal, length, take, Option, Some, None, Result, Ok, Err, refl, sym, subst}
 use Rattle.hex.specs.Hex.{decode_of}
 use Rattle.base_model.specs.Faults.{Rose}
 use Rattle.erst_client.specs.Commands.{ClientState}
@@ -20,18 +20,23 @@ use Rattle.erst_shadow.specs.ShadowTables.{shadow_count}
 use Rattle.apei_script.specs.declared.player.PlayStop.TheVariants.{FlashFault}
 use Rattle.apei_script.specs.Replies.{IsMade}
 use Rattle.apei_script.specs.Players.{PlayerState, budget_by, asker_of}
-use Rattle.apei_script.specs.Words.{refused, words_of_table, words_of_submission, words_of_laid, words_of_reset, words_of_power}
+use Rattle.apei_script.specs.Words.{refused, words_of_table, words_of_submission, words_of_laid}
 use Rattle.apei_script.specs.Asked.{Answers}
 use Rattle.apei_script.specs.Happened.{Happened, Once}
 use Rattle.apei_script.specs.Tables.{GivesTable}
-use Rattle.apei_script.specs.Bridged.{is_on, bridge_refusal, words_of_bridge, NeedsNoBridge, Enters, StaysAs}
+use Rattle.apei_script.specs.Bridged.{bridge_refusal, Enters, StaysAs}
 use Rattle.apei_script.specs.Plays.{ByTheBridge, ByClient, GivenTable, OwnTable, GivenShadow, OnMachine, Reset, Power, ResetFails, PowerFails, HasHappened, Stops}
 use Rattle.apei_script.specs.Sessions.{MakesReply}
+use Rattle.apei_script.proofs.OneEvent.{NeedsNoBridge}
 use Rattle.apei_script.proofs.ShadowGiving.{IsShadowGiven}
 
 -- what a player is made of
 abbrev pub player : MachineState → ClientState → Option ClientState → Option ℕ → BridgeState → PlayerState
 player machine own other steps state = record { machine = machine; own = own; other = other; steps = steps; bridge = state }
+
+-- the one of two clients that is in use
+abbrev pub in_use : ClientState → Option ClientState → ClientState
+in_use own other = elim other [ None ↦ own | Some client ↦ client ]
 
 -- the bytes of digits, where those of a vector are lent
 pub as_lent : (hex items lent : List ℕ) (len : ℕ) → decode_of hex ≡ Ok (take len items) → lent ≡ items → decode_of hex ≡ Ok (take len lent)
@@ -97,21 +102,21 @@ module _ (tells : Type 0) (old : MachineState) (own : ClientState) (steps : Opti
       subst (λ (c : ClientState). MakesReply tells (player old own other steps state) shadow_table (player new own (Some c) steps state) reply) (sym given.client_is)
       (record {
         words = words_of_table shadow_count;
-        plays = λ counts. GivenShadow new given.gives;
+        plays = λ counts. GivenShadow given.gives.left new given.gives.attaches given.gives.attached given.gives.reaches;
         made = subst (λ (k : ℕ). IsMade reply (words_of_table k)) many made;
       })
 
-  pub by_reset : (other : Option ClientState) (n : ℕ) (new : MachineState) (reply : List ℕ) (next : BridgeState) → next ≡ Off → Warms tells old (Ok n) new → IsMade reply (words_of_reset n)
+  pub by_reset : (other : Option ClientState) (n : ℕ) (new : MachineState) (reply : List ℕ) (next : BridgeState) → next ≡ Off → Warms tells old (Ok n) new → IsMade reply (codes "reset " ++ decimal n)
       → MakesReply tells (player old own other steps state) reset (player new own None steps next) reply
   by_reset other n new reply next off warms made =
       subst (λ (b : BridgeState). MakesReply tells (player old own other steps state) reset (player new own None steps b) reply) (sym off)
-      (record { words = words_of_reset n; plays = λ counts. Reset n new warms; made = made })
+      (record { words = codes "reset " ++ decimal n; plays = λ counts. Reset n new warms; made = made })
 
-  pub by_power : (other : Option ClientState) (n : ℕ) (new : MachineState) (reply : List ℕ) (next : BridgeState) → next ≡ Off → Powers tells old (Ok n) new → IsMade reply (words_of_power n)
+  pub by_power : (other : Option ClientState) (n : ℕ) (new : MachineState) (reply : List ℕ) (next : BridgeState) → next ≡ Off → Powers tells old (Ok n) new → IsMade reply (codes "power " ++ decimal n)
       → MakesReply tells (player old own other steps state) power (player new own None steps next) reply
   by_power other n new reply next off powers made =
       subst (λ (b : BridgeState). MakesReply tells (player old own other steps state) power (player new own None steps b) reply) (sym off)
-      (record { words = words_of_power n; plays = λ counts. Power n new powers; made = made })
+      (record { words = codes "power " ++ decimal n; plays = λ counts. Power n new powers; made = made })
 
   pub no_reset : (other : Option ClientState) (why : BootError) (new : MachineState) → Warms tells old (Err why) new → Stops tells (player old own other steps state) reset (player new own other steps state) FlashFault
   no_reset other why new warms = (new, ResetFails why new warms, failed (Warmed (Err why)) new warms warms.leaves.cause.0 warms.leaves.cause.1, warms.leaves.cause.1, refl)
@@ -122,16 +127,24 @@ module _ (tells : Type 0) (old : MachineState) (own : ClientState) (steps : Opti
       (new, PowerFails why new powers, failed (Powered (Err why)) new powers cause.0 cause.1, cause.1, refl)
 
   -- the bridge is turned on, or the first reason why not
-  abbrev refusal_by : Bool → Bool → Bool → Option (List ℕ)
-  refusal_by reserved on idle = if reserved then Some (codes "id") else (if on then Some (codes "on") else (if not idle then Some (codes "reading") else None))
+  abbrev refusal_by : Bool → BridgeState → Bool → Option (List ℕ)
+  refusal_by reserved now idle =
+      if reserved then Some (codes "id")
+      else elim now [ Off ↦ if not idle then Some (codes "reading") else None | on ↦ Some (codes "on") ]
 
-  pub by_bridge : (other : Option ClientState) (id : ℕ) (next : BridgeState) (reply : List ℕ) → is_reserved id ≡ false → is_on state ≡ false → is_idle old.handover.situation ≡ true → next ≡ Awaits id
-      → IsMade reply (words_of_bridge id) → MakesReply tells (player old own other steps state) (bridge id) (player old own other steps next) reply
+  refused_on : (now : BridgeState) (idle : Bool) → (now ≡ Off → ⊥) → refusal_by false now idle ≡ Some (codes "on")
+  refused_on Off idle on = absurd (on refl)
+  refused_on (Awaits id) idle on = refl
+  refused_on (Holds id block) idle on = refl
+  refused_on (Releases id) idle on = refl
+
+  pub by_bridge : (other : Option ClientState) (id : ℕ) (next : BridgeState) (reply : List ℕ) → is_reserved id ≡ false → state ≡ Off → is_idle old.handover.situation ≡ true → next ≡ Awaits id
+      → IsMade reply (codes "bridge " ++ decimal id) → MakesReply tells (player old own other steps state) (bridge id) (player old own other steps next) reply
   by_bridge other id next reply free off idle is made =
-      let none : refusal_by (is_reserved id) (is_on state) (is_idle old.handover.situation) ≡ None =
-      ap (λ (a : Bool). refusal_by a (is_on state) (is_idle old.handover.situation)) free ∙ ap (λ (b : Bool). refusal_by false b (is_idle old.handover.situation)) off ∙ ap (refusal_by false false) idle in
+      let none : refusal_by (is_reserved id) state (is_idle old.handover.situation) ≡ None =
+      ap (λ (a : Bool). refusal_by a state (is_idle old.handover.situation)) free ∙ ap (λ (s : BridgeState). refusal_by false s (is_idle old.handover.situation)) off ∙ ap (refusal_by false Off) idle in
       subst (λ (b : BridgeState). MakesReply tells (player old own other steps state) (bridge id) (player old own other steps b) reply) (sym is)
-      (record { words = words_of_bridge id; plays = λ counts. ByTheBridge (bridge id) _ [] [] (Awaits id) old (Enters id none); made = made })
+      (record { words = codes "bridge " ++ decimal id; plays = λ counts. ByTheBridge (bridge id) _ [] [] (Awaits id) old (Enters id none); made = made })
 
   no_bridge : (other : Option ClientState) (id : ℕ) (why reply : List ℕ) → bridge_refusal (player old own other steps state) id ≡ Some why → IsMade reply (refused why)
       → MakesReply tells (player old own other steps state) (bridge id) (player old own other steps state) reply
@@ -139,17 +152,17 @@ module _ (tells : Type 0) (old : MachineState) (own : ClientState) (steps : Opti
 
   pub no_id : (other : Option ClientState) (id : ℕ) (reply : List ℕ) → is_reserved id ≡ true → IsMade reply (refused (codes "id"))
       → MakesReply tells (player old own other steps state) (bridge id) (player old own other steps state) reply
-  no_id other id reply taken made = no_bridge other id (codes "id") reply (ap (λ (a : Bool). refusal_by a (is_on state) (is_idle old.handover.situation)) taken) made
+  no_id other id reply taken made = no_bridge other id (codes "id") reply (ap (λ (a : Bool). refusal_by a state (is_idle old.handover.situation)) taken) made
 
-  pub no_off : (other : Option ClientState) (id : ℕ) (reply : List ℕ) → is_reserved id ≡ false → is_on state ≡ true → IsMade reply (refused (codes "on"))
+  pub no_off : (other : Option ClientState) (id : ℕ) (reply : List ℕ) → is_reserved id ≡ false → (state ≡ Off → ⊥) → IsMade reply (refused (codes "on"))
       → MakesReply tells (player old own other steps state) (bridge id) (player old own other steps state) reply
   no_off other id reply free on made = no_bridge other id (codes "on") reply
-      (ap (λ (a : Bool). refusal_by a (is_on state) (is_idle old.handover.situation)) free ∙ ap (λ (b : Bool). refusal_by false b (is_idle old.handover.situation)) on) made
+      (ap (λ (a : Bool). refusal_by a state (is_idle old.handover.situation)) free ∙ refused_on state (is_idle old.handover.situation) on) made
 
-  pub no_idle : (other : Option ClientState) (id : ℕ) (reply : List ℕ) → is_reserved id ≡ false → is_on state ≡ false → is_idle old.handover.situation ≡ false → IsMade reply (refused (codes "reading"))
+  pub no_idle : (other : Option ClientState) (id : ℕ) (reply : List ℕ) → is_reserved id ≡ false → state ≡ Off → is_idle old.handover.situation ≡ false → IsMade reply (refused (codes "reading"))
       → MakesReply tells (player old own other steps state) (bridge id) (player old own other steps state) reply
   no_idle other id reply free off busy made = no_bridge other id (codes "reading") reply
-      (ap (λ (a : Bool). refusal_by a (is_on state) (is_idle old.handover.situation)) free ∙ ap (λ (b : Bool). refusal_by false b (is_idle old.handover.situation)) off ∙ ap (refusal_by false false) busy) made
+      (ap (λ (a : Bool). refusal_by a state (is_idle old.handover.situation)) free ∙ ap (λ (s : BridgeState). refusal_by false s (is_idle old.handover.situation)) off ∙ ap (refusal_by false Off) busy) made
 
 -- whether the bridge is on, as it was tested
 pub is_off : (state : BridgeState) (test : Bool) → IsTrue test ↔ (state ≡ Off → ⊥) → test ≡ false → state ≡ Off
@@ -157,12 +170,6 @@ is_off Off test h e = refl
 is_off (Awaits id) test h e = absurd (false≢true (sym e ∙ h.1 (λ same. cc same)))
 is_off (Holds id block) test h e = absurd (false≢true (sym e ∙ h.1 (λ same. cc same)))
 is_off (Releases id) test h e = absurd (false≢true (sym e ∙ h.1 (λ same. cc same)))
-
-pub tested_on : (state : BridgeState) → (state ≡ Off → ⊥) → is_on state ≡ true
-tested_on Off on = absurd (on refl)
-tested_on (Awaits id) on = refl
-tested_on (Holds id block) on = refl
-tested_on (Releases id) on = refl
 
 -- the reader is idle by the handover, as by the machine that it stands for
 pub idle_by : (idle : Bool) (machine : MachineState) (m : HandoverMachine) → StandsFor machine.handover machine.memory.shared m → idle ≡ is_idle m.situation → is_idle machine.handover.situation ≡ idle

@@ -10,7 +10,14 @@ use Rattle.erst_machine.specs.Allowed.{Allows}
 use Rattle.erst_shadow.specs.ShadowTables.{shadow_erst}
 use Rattle.erst_shadow.specs.ShadowCommands.{pieces_in, shadow_client, AttachesShadow}
 use Rattle.erst_shadow.specs.ShadowTheorems.{AttachingFindsShadowClient}
-use Rattle.apei_script.specs.Tables.{ATTACH_STEPS, GivesShadow}
+use Rattle.apei_script.specs.Tables.{ATTACH_STEPS}
+
+-- a client was attached to the machine's second table
+pub record GivesShadow (tells : Type 0) (old new : MachineState) : Type 0 where
+  pub left : ℕ
+  pub attaches : Attaches (Allows tells) (shadow_erst (pieces_in old)) ATTACH_STEPS old (Ok (shadow_client old)) left new
+  pub attached : AttachesShadow ATTACH_STEPS old (Ok (shadow_client old)) left new
+  pub reaches : Reaches (Allows tells) old new
 
 -- the client, and what attaching it left
 pub record IsShadowGiven (tells : Type 0) (old new : MachineState) (client : ClientState) : Type 0 where

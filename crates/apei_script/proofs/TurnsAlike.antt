@@ -7,8 +7,12 @@ use Rattle.erst_machine.specs.MachineState.{MachineState}
 use Rattle.erst_machine.specs.Events.{Turns}
 use Rattle.erst_commands.specs.Equivalence.{MachineOutline, machine_outline, EquivalentMachines}
 use Rattle.erst_commands.proofs.EventOutlines.{turns_alike}
-use Rattle.apei_script.specs.Happened.{taken_by, Turned, NoTurn, OneMore}
+use Rattle.apei_script.specs.Happened.{Turned, NoTurn, OneMore}
 use Rattle.script_text.specs.Turns.{side_of}
+
+-- the block of a turn, where it took one
+abbrev pub taken_by : Event → MachineState → List (List ℕ)
+taken_by event new = elim event as (λ event. List (List ℕ)) [ Took ↦ new.handover.last ∷ [] | other ↦ [] ]
 
 -- the same turns, by their letters
 abbrev pub TurnsBy : MachineState → List ℕ → List Event → List (List ℕ) → MachineState → Type 0

@@ -1,5 +1,5 @@
 -- Lines of the bridge: the one that turns it on, and turns while it is on.
-use Rattle.std.specs.Prelude.{◌≡◌, ℕ, ◌≤◌, not, if◌then◌else◌, Bool, true, false, List, [], ◌∷◌, ◌++◌, codes, decimal, map, Option, Some, None, Result, Ok, Err}
+use Rattle.std.specs.Prelude.{◌≡◌, ℕ, ◌≤◌, not, if◌then◌else◌, List, [], ◌∷◌, ◌++◌, codes, decimal, map, Option, Some, None, Ok, Err}
 use Rattle.std.specs.List.{flat_map}
 use Rattle.base_model.specs.Flash.{CrashImage, image_at}
 use Rattle.record_model.specs.Records.{is_reserved, Stored as Records}
@@ -7,11 +7,10 @@ use Rattle.ghes_ack.specs.declared.events.Event.TheVariants.{Took}
 use Rattle.ghes_ack.specs.Machine.{Machine as HandoverMachine, is_idle}
 use Rattle.erst_machine.specs.MachineState.{MachineState, records_of, told_of}
 use Rattle.erst_machine.specs.Shown.{shown_by, changes_of}
-use Rattle.erst_client.specs.declared.errors.ClientError.{ClientError}
 use Rattle.erst_commands.specs.Writes.{WriteAnswered}
 use Rattle.erst_bridge.specs.declared.events.BridgeEvent.TheVariants.{Line as ByReader, Stored, Kept, Out}
 use Rattle.erst_bridge.specs.BridgedRecord.{bridged}
-use Rattle.erst_bridge.specs.Bridges.{BridgeState, Off, Awaits, Holds, Releases}
+use Rattle.erst_bridge.specs.Bridges.{BridgeState, Off, Awaits, Holds}
 use Rattle.erst_bridge.specs.Turns.{last_of, Turn, OfFirmware, OfBridge, Step, AreTurns}
 use Rattle.erst_bridge.specs.Shown.{stored_record, ShowsTurns, IsStoredAs}
 use Rattle.erst_bridge.specs.MachinesInStep.{StandsInStep}
@@ -28,20 +27,14 @@ use Rattle.script_text.specs.Turns.{side_of}
 abbrev pub changes_in : MachineState → ℕ
 changes_in machine = machine.device.store.flash.steps
 
-abbrev pub is_on : BridgeState → Bool
-is_on Off = false
-is_on (Awaits id) = true
-is_on (Holds id block) = true
-is_on (Releases id) = true
-
 -- why a line does not turn the bridge on: the first reason that applies
 abbrev pub bridge_refusal : PlayerState → ℕ → Option (List ℕ)
 bridge_refusal old id =
     if is_reserved id then Some (codes "id")
-    else (if is_on old.bridge then Some (codes "on") else (if not (is_idle old.machine.handover.situation) then Some (codes "reading") else None))
-
-abbrev pub words_of_bridge : ℕ → List ℕ
-words_of_bridge id = codes "bridge " ++ decimal id
+    else elim old.bridge [
+      | Off ↦ if not (is_idle old.machine.handover.situation) then Some (codes "reading") else None
+      | on ↦ Some (codes "on")
+    ]
 
 -- a turn that left so many flash changes
 abbrev pub words_of_turn : Turn → ℕ → List ℕ
@@ -51,11 +44,8 @@ words_of_turn (OfBridge (Stored id)) changes = codes "stored " ++ decimal id ++ 
 words_of_turn (OfBridge (Kept error)) changes = codes "kept " ++ decimal changes ++ codes " " ++ words_of_client error
 words_of_turn (OfBridge Out) changes = codes "out"
 
-abbrev pub words_of_step : Step → List ℕ
-words_of_step step = words_of_turn step.turn (changes_in step.machine)
-
 abbrev pub words_of_steps : List Step → List ℕ
-words_of_steps steps = codes "turns" ++ flat_map (λ (step : Step). codes " " ++ words_of_step step) steps
+words_of_steps steps = codes "turns" ++ flat_map (λ (step : Step). codes " " ++ words_of_turn step.turn (changes_in step.machine)) steps
 
 -- the same of turns as they are kept
 abbrev pub words_of_made : List MadeTurn → List ℕ
@@ -71,69 +61,49 @@ abbrev pub block_of : Turn → List ℕ → List (List ℕ)
 block_of (OfBridge (ByReader Took)) last = last ∷ []
 block_of turn last = []
 
-abbrev pub blocks_in : List Step → List (List ℕ)
-blocks_in steps = flat_map (λ (step : Step). block_of step.turn (last_of step.machine)) steps
-
--- a block's line is written when it is taken
-abbrev pub block_replies : List Step → List Reply
-block_replies steps = flat_map (λ (step : Step). said_at (changes_in step.machine) (map words_of_block (block_of step.turn (last_of step.machine)))) steps
-
--- and the line of all turns behind the last of them
+-- the replies to turns: a block's line, written when it is taken, and the line of all turns behind the last of them
 abbrev pub replies_of : ℕ → List Step → List Reply
-replies_of changes steps = block_replies steps ++ at_step changes (words_of_steps steps) ∷ []
+replies_of changes steps =
+    flat_map (λ (step : Step). said_at (changes_in step.machine) (map words_of_block (block_of step.turn (last_of step.machine)))) steps
+    ++ at_step changes (words_of_steps steps) ∷ []
 
 -- A line of the bridge: its replies, the blocks of which the listeners are told, the turns that were made, and the bridge and the machine
 -- afterwards. The bridge writes by the machine's own table, whatever table is in use, and each of its turns has the steps of a line
 pub data ByBridge (tells : Type 0) (old : PlayerState) : Line → List Reply → List (List ℕ) → List Step → BridgeState → MachineState → Type 0 where
   Enters : (id : ℕ) → bridge_refusal old id ≡ None
-      → ByBridge tells old (bridge id) (said_at (changes_in old.machine) (words_of_bridge id ∷ [])) [] [] (Awaits id) old.machine
+      → ByBridge tells old (bridge id) (said_at (changes_in old.machine) ((codes "bridge " ++ decimal id) ∷ [])) [] [] (Awaits id) old.machine
   StaysAs : (id : ℕ) (why : List ℕ) → bridge_refusal old id ≡ Some why
       → ByBridge tells old (bridge id) (said_at (changes_in old.machine) (refused why ∷ [])) [] [] old.bridge old.machine
   BridgesTurns : (letters : List ℕ) (steps : List Step) (next : BridgeState) (machine : MachineState) → (old.bridge ≡ Off → ⊥)
       → AreTurns tells old.own (budget_of old) old.bridge old.machine steps next machine → sides_in steps ≡ map side_of letters → (tells → AreCounted steps)
-      → ByBridge tells old (turns letters) (replies_of (changes_in machine) steps) (blocks_in steps) steps next machine
+      → ByBridge tells old (turns letters) (replies_of (changes_in machine) steps)
+      (flat_map (λ (step : Step). block_of step.turn (last_of step.machine)) steps) steps next machine
 
--- turns are made without the bridge where it is off
-abbrev pub NeedsNoBridge : BridgeState → Line → Type 0
-NeedsNoBridge state (turns letters) = state ≡ Off
-NeedsNoBridge state line = Unit {0}
+-- something is so of each of these turns, by the bridge and the machine before it and by what it left
+abbrev pub EachTurn : (BridgeState → MachineState → Step → Type 0) → BridgeState → MachineState → List Step → Type 0
+EachTurn IsSo state old [] = Unit {0}
+EachTurn IsSo state old (step ∷ rest) = IsSo state old step × EachTurn IsSo step.bridge step.machine rest
 
--- the record of a block that a turn stored is among these, where power was lost at a step from the end of the turn on, as long as the
+-- the record of each block that a turn stored is among these, where power was lost at a step from the end of the turn on, as long as the
 -- block's identifier is spared
-abbrev pub KeepsBlock : (ℕ → Type 0) → ℕ → BridgeState → Turn → MachineState → Records → Type 0
-KeepsBlock spared s state (OfBridge (Stored id)) mid shown =
-    (block : List ℕ) × (state ≡ Holds id block) × (spared id → changes_of mid ≤ s → IsStoredAs id (stored_record block id) shown)
-KeepsBlock spared s state turn mid shown = Unit {0}
+abbrev pub KeepsBlocks : (ℕ → Type 0) → ℕ → BridgeState → MachineState → List Step → Records → Type 0
+KeepsBlocks spared s state old steps shown = EachTurn (λ now before step. elim step.turn [
+  | OfBridge (Stored id) ↦
+      (block : List ℕ) × (now ≡ Holds id block) × (spared id → changes_of step.machine ≤ s → IsStoredAs id (stored_record block id) shown)
+  | other ↦ Unit {0}
+]) state old steps
 
-abbrev pub KeepsBlocks : (ℕ → Type 0) → ℕ → BridgeState → List Step → Records → Type 0
-KeepsBlocks spared s state [] shown = Unit {0}
-KeepsBlocks spared s state (step ∷ rest) shown = KeepsBlock spared s state step.turn step.machine shown × KeepsBlocks spared s step.bridge rest shown
-
--- the record of the held block was written, with so many steps, and the write was answered as the record map has it
-abbrev pub HeldIsWritten : ℕ → BridgeState → MachineState → Result (Unit {0}) ClientError → MachineState → Type 0
-HeldIsWritten budget Off old result new = ⊥
-HeldIsWritten budget (Awaits id) old result new = ⊥
-HeldIsWritten budget (Holds id block) old result new = (left : ℕ) × WriteAnswered (bridged block id) budget old result left new
-HeldIsWritten budget (Releases id) old result new = ⊥
-
--- a turn that is answered `Stored` or `Kept` is such a write; `Out` leaves everything, and each other turn leaves the device and its records
-abbrev pub TurnIsMapped : ℕ → BridgeState → MachineState → Turn → MachineState → Type 0
-TurnIsMapped budget state old (OfFirmware event) new = new.device ≡ old.device
-TurnIsMapped budget state old (OfBridge (ByReader event)) new = new.device ≡ old.device
-TurnIsMapped budget state old (OfBridge (Stored id)) new = HeldIsWritten budget state old (Ok tt) new
-TurnIsMapped budget state old (OfBridge (Kept error)) new = HeldIsWritten budget state old (Err error) new
-TurnIsMapped budget state old (OfBridge Out) new = new ≡ old
-
-abbrev pub TurnsAreMapped : ℕ → BridgeState → MachineState → List Step → Type 0
-TurnsAreMapped budget state old [] = Unit {0}
-TurnsAreMapped budget state old (step ∷ rest) =
-    TurnIsMapped budget state old step.turn step.machine × TurnsAreMapped budget step.bridge step.machine rest
-
--- at the step at which each turn ended, the image showed the records that it leaves
-abbrev pub ShowsEachTurn : MachineState → MachineState → List Step → Type 0
-ShowsEachTurn last old [] = Unit {0}
-ShowsEachTurn last old (step ∷ rest) =
-    (shown_by old (image_at (told_of last) (changes_of step.machine)) ≡ records_of step.machine) × ShowsEachTurn last step.machine rest
+-- a turn that is answered `Stored` or `Kept` is a write of the held block's record, with so many steps, answered as the record map has it; `Out`
+-- leaves everything, and each other turn leaves the device and its records
+abbrev pub TurnIsMapped : ℕ → BridgeState → MachineState → Step → Type 0
+TurnIsMapped budget state old step = elim step.turn [
+  | OfBridge (Stored id) ↦
+      (block : List ℕ) × (left : ℕ) × (state ≡ Holds id block) × WriteAnswered (bridged block id) budget old (Ok tt) left step.machine
+  | OfBridge (Kept error) ↦
+      (id : ℕ) × (block : List ℕ) × (left : ℕ) × (state ≡ Holds id block) × WriteAnswered (bridged block id) budget old (Err error) left step.machine
+  | OfBridge Out ↦ step.machine ≡ old
+  | other ↦ step.machine.device ≡ old.device
+]
 
 -- What power lost in the turns of a line shows, and what the turns make of the records. A line that made no turn of the bridge is none of these
 pub record TurnsShown (budget : ℕ) (state : BridgeState) (old : MachineState) (steps : List Step) (new : MachineState) : Type 0 where
@@ -143,7 +113,8 @@ pub record TurnsShown (budget : ℕ) (state : BridgeState) (old : MachineState) 
   pub first : (steps ≡ [] → ⊥) → (m : HandoverMachine) → StandsInStep state old m → (s : ℕ) (image : List ℕ) → changes_of old ≤ s → CrashImage (told_of new) s image
       → HasPrefix state m (bytes_in (records_of old)) (shown_by old image)
   -- and the record of each block that they had stored by then
-  pub stored : (s : ℕ) (image : List ℕ) → changes_of old ≤ s → CrashImage (told_of new) s image → KeepsBlocks (λ id. Unit {0}) s state steps (shown_by old image)
+  pub stored : (s : ℕ) (image : List ℕ) → changes_of old ≤ s → CrashImage (told_of new) s image
+      → KeepsBlocks (λ id. Unit {0}) s state old steps (shown_by old image)
   -- each turn makes of the records what the record map has it make, and at the step at which it ended the image showed these
-  pub mapped : TurnsAreMapped budget state old steps
-  pub ends : ShowsEachTurn new old steps
+  pub mapped : EachTurn (TurnIsMapped budget) state old steps
+  pub ends : EachTurn (λ now before step. shown_by before (image_at (told_of new) (changes_of step.machine)) ≡ records_of step.machine) state old steps

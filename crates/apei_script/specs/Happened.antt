@@ -11,17 +11,13 @@ use Rattle.script_text.specs.Turns.{side_of}
 use Rattle.script_text.specs.ScriptGrammar.{Line, error, turns, peek, fatal, bert}
 use Rattle.apei_script.specs.Words.{words_of_submission, words_of_turns, words_of_block, words_of_peek, words_of_laid, words_of_bert}
 
--- the block of a turn, where it took one
-abbrev pub taken_by : Event → MachineState → List (List ℕ)
-taken_by Took new = new.handover.last ∷ []
-taken_by event new = []
-
 -- turns one after another: their events, the blocks that were taken, and the machine afterwards
 pub data Turned (old : MachineState) : List ℕ → List Event → List (List ℕ) → MachineState → Type 0 where
   NoTurn : Turned old [] [] [] old
   OneMore : (letters : List ℕ) (events : List Event) (blocks : List (List ℕ)) (mid : MachineState) (letter : ℕ) (event : Event) (new : MachineState)
       → Turned old letters events blocks mid → Turns (side_of letter) mid event new
-      → Turned old (letters ++ letter ∷ []) (events ++ event ∷ []) (blocks ++ taken_by event new) new
+      → Turned old (letters ++ letter ∷ []) (events ++ event ∷ [])
+      (blocks ++ elim event as (λ event. List (List ℕ)) [ Took ↦ new.handover.last ∷ [] | other ↦ [] ]) new
 
 -- what a line asks for as one thing that happens, and the words of its reply
 abbrev pub AsksFor : Line → MachineEvent → List ℕ → Type 0

@@ -8,15 +8,13 @@ use Rattle.apei_notify.specs.Telling.{wanted}
 use Rattle.erst_client.specs.Timings.{enough_steps}
 use Rattle.erst_machine.specs.MachineState.{records_of, told_of}
 use Rattle.erst_machine.specs.Shown.{shown_by, changes_of}
-use Rattle.erst_bridge.specs.Turns.{Step}
 use Rattle.erst_bridge.specs.Shown.{ShowsTurns}
-use Rattle.script_text.specs.ScriptGrammar.{Line}
 use Rattle.apei_script.specs.Players.{PlayerState, client_of, budget_of, UsesOwn, UsesShadow, UsesEither}
 use Rattle.apei_script.specs.Words.{said_at, text_of_replies}
 use Rattle.apei_script.specs.Mapped.{Mapped, after_line}
 use Rattle.apei_script.specs.ShadowMapped.{ShadowMapped}
 pub use Rattle.apei_script.specs.Plays.{Played}
-use Rattle.apei_script.specs.Plays.{LinePlayed, step_of, names_command, IsOwnLine, SaysHardware, SaysStopped, SaysLate}
+use Rattle.apei_script.specs.Plays.{LinePlayed, step_of, names_command, IsOwnLine, SaysHardware, SaysNoStop}
 
 -- how often a listener has heard of an error once it was told of so many more that it wants
 abbrev pub heard_of : ℕ → ℕ → ℕ
@@ -54,19 +52,18 @@ abbrev pub AreCounted : List Played → Type 0
 AreCounted [] = Unit {0}
 AreCounted (played ∷ rest) = (changes_of played.left.machine ≡ step_of played.left) × AreCounted rest
 
--- what power lost at step s in a line may show: the records from before it, or as it leaves them where nothing fails; in turns of the bridge
--- those after the turns that had ended by s, or as the next one leaves them
-abbrev pub ShowsLine : ℕ → PlayerState → Line → List Step → Stored → Type 0
-ShowsLine s state line [] shown = (shown ≡ records_of state.machine) ⊎ (shown ≡ after_line (client_of state).range state.machine line)
-ShowsLine s state line (step ∷ rest) shown = ShowsTurns s state.bridge state.machine (step ∷ rest) shown
-
--- what power lost at step s may show: the records after the lines that had ended by s, or what the next one shows
+-- What power lost at step s may show: the records after the lines that had ended by s, or what the next line shows. That is the records from
+-- before it, or as it leaves them where nothing fails; in turns of the bridge those after the turns that had ended by s, or as the next one leaves
+-- them
 abbrev pub ShowsLines : ℕ → PlayerState → List Played → Stored → Type 0
 ShowsLines s state [] shown = shown ≡ records_of state.machine
 ShowsLines s state (played ∷ rest) shown =
     MatchBool (nat_le (changes_of played.left.machine) s)
     (ShowsLines s played.left rest shown)
-    (ShowsLine s state played.line played.steps shown)
+    (elim played.steps [
+      | [] ↦ (shown ≡ records_of state.machine) ⊎ (shown ≡ after_line (client_of state).range state.machine played.line)
+      | step ∷ more ↦ ShowsTurns s state.bridge state.machine (step ∷ more) shown
+    ])
 
 -- at the step at which each line ended, the image showed the records that it leaves
 abbrev pub ShowsEachLine : PlayerState → PlayerState → List Played → Type 0
@@ -86,7 +83,7 @@ pub record IsMappedBy (Maps : List ℕ → Type 0) (state : PlayerState) (played
   pub said : played.said ≡ said_at (step_of played.left) (words ∷ [])
   pub mapped : Maps words
   pub cause : SaysHardware played.said → Rose state.machine.device.store.flash.faults played.left.machine.device.store.flash.faults
-  pub enough : enough_steps (client_of state).timings ≤ budget_of state → (SaysStopped played.said → ⊥) × (SaysLate played.said → ⊥)
+  pub enough : enough_steps (client_of state).timings ≤ budget_of state → SaysNoStop played.said
 
 -- by the machine's own table, and by that whose own programs move the record
 abbrev pub IsMapped : PlayerState → Played → Type 0
@@ -110,7 +107,7 @@ NoneSaysHardware state (played ∷ rest) = (UsesEither state → names_command p
 abbrev pub AllGoThrough : PlayerState → List Played → Type 0
 AllGoThrough state [] = Unit {0}
 AllGoThrough state (played ∷ rest) =
-    (UsesEither state → names_command played.line ≡ true → enough_steps (client_of state).timings ≤ budget_of state → (SaysStopped played.said → ⊥) × (SaysLate played.said → ⊥))
+    (UsesEither state → names_command played.line ≡ true → enough_steps (client_of state).timings ≤ budget_of state → SaysNoStop played.said)
     × AllGoThrough played.left rest
 
 -- before each line, and at the end, the client of one of the machine's two tables is in use

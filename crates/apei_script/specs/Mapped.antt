@@ -1,15 +1,12 @@
 -- What a line asks of the client of the machine's own table: its command on the record map, answered as the map does.
-use Rattle.std.specs.Prelude.{◌≡◌, ◌⊎◌, ℕ, List, length, Option, is_none, if◌then◌else◌, Result, Ok, Err}
+use Rattle.std.specs.Prelude.{◌≡◌, ℕ, List, length, Option, is_none, if◌then◌else◌, Result, Ok, Err}
 use Rattle.hex.specs.Hex.{decode_of}
-use Rattle.hex.specs.declared.error.FromHexError.{FromHexError}
-use Rattle.base_model.specs.Flash.{Leaves}
 use Rattle.record_model.specs.Records.{Stored}
 use Rattle.record_model.specs.RecordMap.{Write, Clear, after}
 use Rattle.erst_client.specs.declared.errors.ClientError.{ClientError}
 use Rattle.erst_client.specs.Commands.{write_refusal}
 use Rattle.erst_client.specs.Sequences.{clear_requests, dummy_requests}
-use Rattle.erst_machine.specs.MachineState.{MachineState, records_of, told_of}
-use Rattle.erst_machine.specs.Shown.{shown_by}
+use Rattle.erst_machine.specs.MachineState.{MachineState, records_of}
 use Rattle.erst_commands.specs.Looks.{AsksOnce, CountMade, NextMade}
 use Rattle.erst_commands.specs.Changes.{ChangeCommand, DummyCommand}
 use Rattle.erst_commands.specs.Writes.{WriteAnswered, id_of, marked}
@@ -33,19 +30,14 @@ pub data Mapped (steps : ℕ) (old : MachineState) : Line → List ℕ → Machi
   IsDummy : (result : Result (Unit {0}) ClientError) (left : ℕ) (new : MachineState) → DummyCommand old new dummy_requests steps result left
       → Mapped steps old dummy (words_of_dummy result) new
 
--- the records as the write of some bytes leaves them where nothing fails, by a client of this log range: bytes that it refuses change nothing
-abbrev pub after_write : ℕ → MachineState → Result (List ℕ) FromHexError → Stored
-after_write range state (Ok bytes) =
-    if is_none (write_refusal bytes range) then after state.device.store.layout (Write (id_of bytes) (marked bytes)) (records_of state)
-    else records_of state
-after_write range state (Err error) = records_of state
-
--- the records as a line leaves them where nothing fails and its steps are enough: only writes and clears make others
+-- the records as a line leaves them where nothing fails and its steps are enough, by a client of this log range: only clears make others, and writes of
+-- bytes that the client does not refuse
 abbrev pub after_line : ℕ → MachineState → Line → Stored
-after_line range state (write hex) = after_write range state (decode_of hex)
+after_line range state (write hex) = elim (decode_of hex) [
+  | Ok bytes ↦
+      if is_none (write_refusal bytes range) then after state.device.store.layout (Write (id_of bytes) (marked bytes)) (records_of state)
+      else records_of state
+  | Err error ↦ records_of state
+]
 after_line range state (clear id) = after state.device.store.layout (Clear id) (records_of state)
 after_line range state line = records_of state
-
--- power lost in a line leaves the records from before it, or those
-abbrev pub LineLeaves : ℕ → MachineState → Line → MachineState → Type 0
-LineLeaves range old line new = Leaves (told_of old) (told_of new) (λ image. (shown_by old image ≡ records_of old) ⊎ (shown_by old image ≡ after_line range old line))

@@ -17,13 +17,9 @@ pub record PlayerState : Type 0 where
   pub steps : Option ℕ
   pub bridge : BridgeState
 
--- the one of two clients that is in use
-abbrev pub in_use : ClientState → Option ClientState → ClientState
-in_use own None = own
-in_use own (Some other) = other
-
+-- the client that is in use
 abbrev pub client_of : PlayerState → ClientState
-client_of state = in_use state.own state.other
+client_of state = elim state.other [ None ↦ state.own | Some other ↦ other ]
 
 -- the steps of a line
 abbrev pub budget_by : Option ℕ → ClientState → ℕ
@@ -32,13 +28,6 @@ budget_by (Some steps) client = steps
 
 abbrev pub budget_of : PlayerState → ℕ
 budget_of state = budget_by state.steps (client_of state)
-
--- the client in use, with the steps of a line
-abbrev pub asker_in : PlayerState → Asker
-asker_in state = asker_of (client_of state) (budget_of state)
-
-abbrev pub with_machine : MachineState → PlayerState → PlayerState
-with_machine machine state = record state { machine = machine }
 
 -- the client in use is that of the machine's own table
 abbrev pub UsesOwn : PlayerState → Type 0

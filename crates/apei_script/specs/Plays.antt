@@ -1,8 +1,9 @@
 -- The playing of one line. `tells` says whether the flash tells its content.
-use Rattle.std.specs.Prelude.{◌≡◌, ℕ, ◌+◌, ◌≤◌, Bool, true, false, List, [], ◌∷◌, ◌++◌, codes, decimal, length, take, Option, Some, None, Ok, Err}
+use Rattle.std.specs.Prelude.{◌≡◌, ◌≢◌, ◌⊎◌, ℕ, ◌+◌, ◌≤◌, Bool, true, false, List, [], ◌∷◌, ◌++◌, codes, decimal, length, take, Option, Some, None, Ok, Err}
 use Rattle.hex.specs.Hex.{decode_of}
 use Rattle.base_model.specs.Faults.{Rose}
-use Rattle.apei_space.specs.Accesses.{Move, Trail}
+use Rattle.base_model.specs.Flash.{Leaves}
+use Rattle.apei_space.specs.Accesses.{Move, Trail, Reaches}
 use Rattle.script_lines.specs.Streams.{Stream}
 use Rattle.script_lines.specs.declared.lengths.TheConstants.{LONGEST_LINE}
 use Rattle.apei_notify.specs.Telling.{Hearing, counts_of}
@@ -11,12 +12,14 @@ use Rattle.ghes_ack.specs.declared.events.Event.{Event as TurnEvent}
 use Rattle.ghes_ack.specs.declared.events.Event.TheVariants.{Took}
 use Rattle.erst_entries.specs.Tables.{refusal as table_refusal}
 use Rattle.erst_interp.specs.declared.stops.RunStop.{RunStop}
+use Rattle.erst_client.specs.Attaching.{Attaches}
 use Rattle.erst_client.specs.Commands.{ClientState}
 use Rattle.erst_client.specs.Timings.{enough_steps}
 use Rattle.erst_machine.specs.declared.errors.BootError.{BootError}
-use Rattle.erst_machine.specs.MachineState.{MachineState}
+use Rattle.erst_machine.specs.MachineState.{MachineState, records_of, told_of}
+use Rattle.erst_machine.specs.Allowed.{Allows}
 use Rattle.erst_machine.specs.Events.{Event, Warms, Powers, Happens}
-use Rattle.erst_machine.specs.Shown.{IsShown, made_by_event}
+use Rattle.erst_machine.specs.Shown.{IsShown, made_by_event, shown_by}
 use Rattle.erst_commands.specs.Attached.{own_client}
 use Rattle.erst_bridge.specs.declared.events.BridgeEvent.TheVariants.{Line as ByReader}
 use Rattle.erst_bridge.specs.Bridges.{BridgeState, Off}
@@ -25,30 +28,21 @@ use Rattle.script_text.specs.RunWords.{words_of_stop}
 use Rattle.script_text.specs.ScriptGrammar.{Line, IsValid, blank, comment, write, read, clear, count, next, dummy, action, table, own_table, shadow_table, error, turns, fatal, bert, heard, reset, power}
 use Rattle.apei_script.specs.declared.player.PlayStop.{PlayStop}
 use Rattle.apei_script.specs.declared.player.PlayStop.TheVariants.{SinkFault, FlashFault, Memory}
-use Rattle.erst_shadow.specs.ShadowTables.{shadow_count}
-use Rattle.erst_shadow.specs.ShadowCommands.{shadow_client}
-use Rattle.apei_script.specs.Players.{PlayerState, client_of, budget_of, asker_in, with_machine, UsesOwn, UsesShadow, UsesEither}
-use Rattle.apei_script.specs.Words.{Reply, at_step, said_at, words_in, text_of_reply, text_of_replies, replies_at, refused, words_of_table, words_of_turns, words_of_heard, words_of_reset, words_of_power}
+use Rattle.erst_shadow.specs.ShadowTables.{shadow_count, shadow_erst}
+use Rattle.erst_shadow.specs.ShadowCommands.{pieces_in, shadow_client, AttachesShadow}
+use Rattle.apei_script.specs.Players.{PlayerState, client_of, budget_of, asker_of, UsesOwn, UsesShadow, UsesEither}
+use Rattle.apei_script.specs.Words.{Reply, at_step, said_at, words_in, reply_at, text_of_replies, replies_at, refused, words_of_table, words_of_turns, words_of_heard}
 use Rattle.apei_script.specs.Asked.{Commanded}
-use Rattle.apei_script.specs.Tables.{GivesTable, GivesShadow}
-use Rattle.apei_script.specs.Mapped.{Mapped, LineLeaves}
+use Rattle.apei_script.specs.Tables.{ATTACH_STEPS, GivesTable}
+use Rattle.apei_script.specs.Mapped.{Mapped, after_line}
 use Rattle.apei_script.specs.ShadowMapped.{ShadowMapped}
 use Rattle.apei_script.specs.Happened.{Happened}
 use Rattle.apei_script.specs.Changes.{changes_along}
 pub use Rattle.apei_script.specs.Bridged.{changes_in}
-use Rattle.apei_script.specs.Bridged.{words_of_steps, ByBridge, NeedsNoBridge, TurnsShown}
+use Rattle.apei_script.specs.Bridged.{words_of_steps, ByBridge, TurnsShown}
 
 abbrev pub step_of : PlayerState → ℕ
 step_of state = changes_in state.machine
-
--- a restart: the client that was attached first is in use again, and the bridge is off
-abbrev pub restarted : MachineState → PlayerState → PlayerState
-restarted machine old = record old { machine = machine; other = None; bridge = Off }
-
--- the words of a line that only tells something of the player or of its listeners
-abbrev pub words_told : List ℕ → PlayerState → Line → Option (List ℕ)
-words_told counts old heard = Some (words_of_heard counts)
-words_told counts old line = None
 
 -- a line that was played: its replies, the blocks of which the listeners were told, the turns of the bridge and of the firmware beside it, and
 -- the player afterwards
@@ -66,24 +60,31 @@ played_as line said blocks steps left = record { line = line; said = said; block
 abbrev pub one_reply : Line → List ℕ → PlayerState → Played
 one_reply line words left = played_as line (said_at (step_of left) (words ∷ [])) [] [] left
 
--- The playing of a line by a player. `counts` says how often each listener has heard of an error before it
+-- The playing of a line by a player. `counts` says how often each listener has heard of an error before it. Turns are made without the bridge
+-- where it is off. Attaching to the machine's second table never fails: beside bytes of the scratch memory all that it leaves is the timings in
+-- VALUE. At a restart the number of records is told, the client that was attached first is in use again, and the bridge is off
 pub data Plays (tells : Type 0) (counts : List ℕ) (old : PlayerState) : Played → Type 0 where
   Blank : Plays tells counts old (played_as blank [] [] [] old)
-  ByClient : (line : Line) (words : List ℕ) (machine : MachineState) → Commanded tells (asker_in old) old.machine line words machine
-      → Plays tells counts old (one_reply line words (with_machine machine old))
+  ByClient : (line : Line) (words : List ℕ) (machine : MachineState) → Commanded tells (asker_of (client_of old) (budget_of old)) old.machine line words machine
+      → Plays tells counts old (one_reply line words (record old { machine = machine }))
   GivenTable : (hex bytes words : List ℕ) (machine : MachineState) (other : Option ClientState) → decode_of hex ≡ Ok bytes
       → GivesTable tells old.machine old.other bytes words machine other
       → Plays tells counts old (one_reply (table hex) words (record old { machine = machine; other = other }))
   OwnTable : Plays tells counts old (one_reply own_table (words_of_table (length old.own.table.entries)) (record old { other = None }))
-  GivenShadow : (machine : MachineState) → GivesShadow tells old.machine machine
+  GivenShadow : (left : ℕ) (machine : MachineState)
+      → Attaches (Allows tells) (shadow_erst (pieces_in old.machine)) ATTACH_STEPS old.machine (Ok (shadow_client old.machine)) left machine
+      → AttachesShadow ATTACH_STEPS old.machine (Ok (shadow_client old.machine)) left machine → Reaches (Allows tells) old.machine machine
       → Plays tells counts old (one_reply shadow_table (words_of_table shadow_count) (record old { machine = machine; other = Some (shadow_client old.machine) }))
-  OnMachine : (line : Line) (words blocks : List (List ℕ)) (machine : MachineState) → NeedsNoBridge old.bridge line → Happened tells old.machine line words blocks machine
-      → Plays tells counts old (played_as line (said_at (changes_in machine) words) blocks [] (with_machine machine old))
+  OnMachine : (line : Line) (words blocks : List (List ℕ)) (machine : MachineState)
+      → elim line as (λ line. Type 0) [ turns letters ↦ old.bridge ≡ Off | other ↦ Unit {0} ] → Happened tells old.machine line words blocks machine
+      → Plays tells counts old (played_as line (said_at (changes_in machine) words) blocks [] (record old { machine = machine }))
   ByTheBridge : (line : Line) (said : List Reply) (blocks : List (List ℕ)) (steps : List Step) (next : BridgeState) (machine : MachineState) → ByBridge tells old line said blocks steps next machine
       → Plays tells counts old (played_as line said blocks steps (record old { machine = machine; bridge = next }))
-  OnlyTells : (line : Line) (words : List ℕ) → words_told counts old line ≡ Some words → Plays tells counts old (one_reply line words old)
-  Reset : (n : ℕ) (machine : MachineState) → Warms tells old.machine (Ok n) machine → Plays tells counts old (one_reply reset (words_of_reset n) (restarted machine old))
-  Power : (n : ℕ) (machine : MachineState) → Powers tells old.machine (Ok n) machine → Plays tells counts old (one_reply power (words_of_power n) (restarted machine old))
+  OnlyTells : Plays tells counts old (one_reply heard (words_of_heard counts) old)
+  Reset : (n : ℕ) (machine : MachineState) → Warms tells old.machine (Ok n) machine
+      → Plays tells counts old (one_reply reset (codes "reset " ++ decimal n) (record old { machine = machine; other = None; bridge = Off }))
+  Power : (n : ℕ) (machine : MachineState) → Powers tells old.machine (Ok n) machine
+      → Plays tells counts old (one_reply power (codes "power " ++ decimal n) (record old { machine = machine; other = None; bridge = Off }))
 
 -- a restart that the flash failed
 pub data FailsRestart (tells : Type 0) (old : MachineState) : Line → MachineState → Type 0 where
@@ -145,15 +146,15 @@ IsOwnLine (action code value) = ⊥
 IsOwnLine (table hex) = ⊥
 IsOwnLine line = Unit {0}
 
--- the reply is that the flash failed, that a program was stopped, and that the device was busy for too long
+-- the reply is that the flash failed
 abbrev pub SaysHardware : List Reply → Type 0
 SaysHardware said = words_in said ≡ refused (codes "hardware") ∷ []
 
-abbrev pub SaysStopped : List Reply → Type 0
-SaysStopped said = (why : RunStop) × (words_in said ≡ refused (codes "stopped " ++ words_of_stop why) ∷ [])
-
-abbrev pub SaysLate : List Reply → Type 0
-SaysLate said = (waited : ℕ) × (words_in said ≡ refused (codes "late " ++ decimal waited) ∷ [])
+-- it is neither that a program was stopped, nor that the device was busy for too long
+abbrev pub SaysNoStop : List Reply → Type 0
+SaysNoStop said =
+    ((why : RunStop) → words_in said ≢ refused (codes "stopped " ++ words_of_stop why) ∷ [])
+    × ((waited : ℕ) → words_in said ≢ refused (codes "late " ++ decimal waited) ∷ [])
 
 -- One line that was played. By one of the machine's own two tables a command on records is the record map's; it says that the flash failed
 -- only where the flash's count of faults rose in this very line, and where its steps are enough it is never stopped, and never late
@@ -165,9 +166,11 @@ pub record LinePlayed (tells : Type 0) (counts : List ℕ) (old : PlayerState) (
   pub by_shadow : tells → UsesShadow old → names_command played.line ≡ true
       → (words : List ℕ) × (played.said ≡ said_at (step_of played.left) (words ∷ [])) × ShadowMapped (budget_of old) old.machine played.line words played.left.machine
   pub cause : UsesEither old → names_command played.line ≡ true → SaysHardware played.said → Rose old.machine.device.store.flash.faults played.left.machine.device.store.flash.faults
-  pub enough : UsesEither old → names_command played.line ≡ true → enough_steps (client_of old).timings ≤ budget_of old → (SaysStopped played.said → ⊥) × (SaysLate played.said → ⊥)
+  pub enough : UsesEither old → names_command played.line ≡ true → enough_steps (client_of old).timings ≤ budget_of old → SaysNoStop played.said
   -- and power lost in it leaves the records from before it, or as it leaves them where nothing fails
-  pub leaves : tells → (names_command played.line ≡ true → UsesEither old) → IsOwnLine played.line → played.steps ≡ [] → LineLeaves (client_of old).range old.machine played.line played.left.machine
+  pub leaves : tells → (names_command played.line ≡ true → UsesEither old) → IsOwnLine played.line → played.steps ≡ []
+      → Leaves (told_of old.machine) (told_of played.left.machine)
+      (λ image. (shown_by old.machine image ≡ records_of old.machine) ⊎ (shown_by old.machine image ≡ after_line (client_of old).range old.machine played.line))
   -- but where it made turns of the bridge, each of these is shown and is the record map's, and each block that they stored stays stored
   pub turned : tells → old.own ≡ own_client old.machine → TurnsShown (budget_of old) old.bridge old.machine played.steps played.left.machine
 
@@ -180,7 +183,7 @@ pub data BringsTable : Line → Type 0 where
 abbrev pub Stops : Type 0 → PlayerState → Line → PlayerState → PlayStop → Type 0
 Stops tells old line new SinkFault = ⊥
 Stops tells old line new FlashFault = (machine : MachineState) × FailsRestart tells old.machine line machine × HasHappened tells old.machine machine
-    × Rose old.machine.device.store.flash.faults machine.device.store.flash.faults × (new ≡ with_machine machine old)
+    × Rose old.machine.device.store.flash.faults machine.device.store.flash.faults × (new ≡ record old { machine = machine })
 Stops tells old line new Memory = (new ≡ old) × BringsTable line
 
 -- what a line finds and leaves: the player, or its machine alone, and the listeners
@@ -221,7 +224,7 @@ pub data LeftIn : Line → Line → List Reply → List Reply → Reply → Type
 
 -- replies were written, and of one more a part
 abbrev pub PartlyWritten : List Reply → Reply → List ℕ → List ℕ → Type 0
-PartlyWritten before last written written_now = (n : ℕ) × (written_now ≡ written ++ text_of_replies before ++ take n (text_of_reply last))
+PartlyWritten before last written written_now = (n : ℕ) × (written_now ≡ written ++ text_of_replies before ++ take n (reply_at last.step last.words))
 
 -- a line was played, or what is left of it, and its listeners told. The sink refused a reply
 pub record PlaysUnwritten {L : Type 0} (hearing : L → Hearing) (tells : Type 0) (sink : Stream) (old : Stage PlayerState L) (line : Line) (new : Stage PlayerState L) : Type 0 where

@@ -7,7 +7,7 @@ use Rattle.erst_machine.specs.Allowed.{Allows}
 use Rattle.script_lines.specs.Streams.{Stream}
 use Rattle.script_text.specs.ScriptGrammar.{Line, read, bert}
 use Rattle.apei_script.specs.declared.session.Session.{Session}
-use Rattle.apei_script.specs.Players.{PlayerState, client_of, budget_of, asker_in}
+use Rattle.apei_script.specs.Players.{PlayerState, client_of, budget_of, asker_of}
 use Rattle.apei_script.specs.Replies.{IsMade}
 use Rattle.erst_machine.specs.MachineState.{MachineState}
 use Rattle.apei_script.specs.Asked.{ReadAsked}
@@ -38,7 +38,7 @@ AnswersNext tells old result new = (left : ℕ) × Names (Allows tells) (client_
 
 -- and a read: its line was played too, and its reply shows what its buffer held
 pub record ReadPlayed (tells : Type 0) (old : PlayerState) (id : ℕ) (result : Result ℕ ClientError) (new : PlayerState) : Type 0 where
-  pub asked : ReadAsked tells (asker_in old) old.machine id result new.machine
+  pub asked : ReadAsked tells (asker_of (client_of old) (budget_of old)) old.machine id result new.machine
   pub played : CommandPlayed tells old (read id) new (words_of_read asked.shown result)
 
 -- a line of one reply was played, and its reply made

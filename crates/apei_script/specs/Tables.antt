@@ -1,5 +1,5 @@
 -- A line that gives a table. `tells` says whether the flash tells its content.
-use Rattle.std.specs.Prelude.{◌≡◌, ℕ, List, ◌++◌, length, Option, Some, None, Ok, Err}
+use Rattle.std.specs.Prelude.{◌≡◌, ℕ, List, ◌++◌, codes, length, Option, Some, None, Ok, Err}
 use Rattle.apei_space.specs.Accesses.{Reaches}
 use Rattle.erst_entries.specs.declared.tables.ErstError.{ErstError}
 use Rattle.erst_entries.specs.Layout.{Erst, FitsErst}
@@ -9,9 +9,9 @@ use Rattle.erst_client.specs.Attaching.{Attaches}
 use Rattle.erst_client.specs.Commands.{ClientState}
 use Rattle.erst_machine.specs.MachineState.{MachineState}
 use Rattle.erst_machine.specs.Allowed.{Allows}
-use Rattle.erst_shadow.specs.ShadowTables.{shadow_erst}
-use Rattle.erst_shadow.specs.ShadowCommands.{pieces_in, shadow_client, AttachesShadow}
-use Rattle.apei_script.specs.Words.{words_of_table, words_of_no_table, words_of_no_client}
+use Rattle.script_text.specs.ClientWords.{words_of_attach}
+use Rattle.script_text.specs.TableWords.{words_of_erst}
+use Rattle.apei_script.specs.Words.{refused, words_of_table}
 
 -- the steps that attaching to a table is given
 abbrev pub ATTACH_STEPS : ℕ
@@ -27,21 +27,13 @@ pub record BeginsWith (erst : Erst) (bytes : List ℕ) : Type 0 where
   pub sound : refusal bytes ≡ None
   pub only : (other : Erst) (table rest : List ℕ) → bytes ≡ table ++ rest → FitsErst other → IsErst other table → other ≡ erst
 
--- A client was attached to the machine's second table, which never fails: beside bytes of the scratch memory all that it leaves is the
--- timings in VALUE
-pub record GivesShadow (tells : Type 0) (old new : MachineState) : Type 0 where
-  pub left : ℕ
-  pub attaches : Attaches (Allows tells) (shadow_erst (pieces_in old)) ATTACH_STEPS old (Ok (shadow_client old)) left new
-  pub attached : AttachesShadow ATTACH_STEPS old (Ok (shadow_client old)) left new
-  pub reaches : Reaches (Allows tells) old new
-
 -- the machine before, the client that a line gave before, the bytes of this line, the words of its reply, and machine and client
 -- afterwards. Bytes that begin with no table are refused, and where no client attaches to it, the client stays
 pub data GivesTable (tells : Type 0) (old : MachineState) (other : Option ClientState) (bytes : List ℕ) : List ℕ → MachineState → Option ClientState → Type 0 where
-  IsNoTable : (why : ErstError) → refusal bytes ≡ Some why → GivesTable tells old other bytes (words_of_no_table why) old other
+  IsNoTable : (why : ErstError) → refusal bytes ≡ Some why → GivesTable tells old other bytes (refused (codes "table " ++ words_of_erst why)) old other
   IsNotAttached : (erst : Erst) (why : AttachError) (left : ℕ) (new : MachineState) → BeginsWith erst bytes
       → Attaches (Allows tells) erst ATTACH_STEPS old (Err why) left new → Reaches (Allows tells) old new
-      → GivesTable tells old other bytes (words_of_no_client why) new other
+      → GivesTable tells old other bytes (refused (words_of_attach why)) new other
   IsAttached : (erst : Erst) (client : ClientState) (left : ℕ) (new : MachineState) → BeginsWith erst bytes
       → Attaches (Allows tells) erst ATTACH_STEPS old (Ok client) left new → Reaches (Allows tells) old new
       → GivesTable tells old other bytes (words_of_table (length erst.entries)) new (Some client)

@@ -5,18 +5,15 @@ use Rattle.hex.specs.Hex.{encode_lower}
 use Rattle.base_model.specs.Bytes.{number_at}
 use Rattle.apei_space.specs.declared.faults.SpaceFault.{SpaceFault}
 use Rattle.erst_interp.specs.declared.stops.RunStop.{RunStop}
-use Rattle.erst_client.specs.declared.errors.AttachError.{AttachError}
 use Rattle.erst_client.specs.declared.errors.ClientError.{ClientError}
-use Rattle.erst_entries.specs.declared.tables.ErstError.{ErstError}
 use Rattle.ghes_ack.specs.declared.submission.SubmitError.{SubmitError}
 use Rattle.ghes_ack.specs.declared.submission.SubmitError.TheVariants.{Long as too_long, Malformed as malformed, Trailing as trailing}
 use Rattle.erst_machine.specs.declared.errors.FatalError.{FatalError}
 use Rattle.erst_machine.specs.declared.errors.FatalError.TheVariants.{Long, Malformed, Trailing, Region}
-use Rattle.script_text.specs.ClientWords.{words_of_attach, words_of_client}
+use Rattle.script_text.specs.ClientWords.{words_of_client}
 pub use Rattle.script_text.specs.ReplyWords.{refused, word_of, words_of_turns, words_of_heard}
 use Rattle.script_text.specs.RunWords.{words_of_fault, words_of_stop}
 use Rattle.script_text.specs.SubmitWords.{words_of_submit}
-use Rattle.script_text.specs.TableWords.{words_of_erst}
 use Rattle.erst_commands.specs.Writes.{id_of}
 
 -- a write shows the identifier and the length of the bytes of its line
@@ -58,12 +55,6 @@ words_of_action (Err stop) = refused (codes "stopped " ++ words_of_stop stop)
 abbrev pub words_of_table : ℕ → List ℕ
 words_of_table entries = codes "table " ++ decimal entries
 
-abbrev pub words_of_no_table : ErstError → List ℕ
-words_of_no_table error = refused (codes "table " ++ words_of_erst error)
-
-abbrev pub words_of_no_client : AttachError → List ℕ
-words_of_no_client error = refused (words_of_attach error)
-
 abbrev pub words_of_submission : Result ℕ SubmitError → List ℕ
 words_of_submission (Ok n) = codes "queued " ++ decimal n
 words_of_submission (Err error) = refused (words_of_submit error)
@@ -92,13 +83,6 @@ words_of_laid (Err error) = refused (words_of_fatal error)
 abbrev pub words_of_bert : ℕ → List ℕ
 words_of_bert n = codes "bert " ++ decimal n
 
--- how many records there are after a restart
-abbrev pub words_of_reset : ℕ → List ℕ
-words_of_reset n = codes "reset " ++ decimal n
-
-abbrev pub words_of_power : ℕ → List ℕ
-words_of_power n = codes "power " ++ decimal n
-
 -- a reply: its words, and how many flash changes were made when it was given
 pub record Reply : Type 0 where
   pub words : List ℕ
@@ -118,12 +102,9 @@ words_in said = map (λ (reply : Reply). reply.words) said
 abbrev pub reply_at : ℕ → List ℕ → List ℕ
 reply_at step words = words ++ (codes " @" ++ decimal step ++ 10 ∷ [])
 
-abbrev pub text_of_reply : Reply → List ℕ
-text_of_reply reply = reply_at reply.step reply.words
-
 -- replies one after another
 abbrev pub text_of_replies : List Reply → List ℕ
-text_of_replies said = flat_map text_of_reply said
+text_of_replies said = flat_map (λ (reply : Reply). reply_at reply.step reply.words) said
 
 abbrev pub replies_at : ℕ → List (List ℕ) → List ℕ
 replies_at step words = text_of_replies (said_at step words)

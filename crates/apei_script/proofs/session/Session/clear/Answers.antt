@@ -1,6 +1,6 @@
 use Rattle.std.proofs.Common.{◌∙◌, Some, ap}
 use Rattle.script_text.specs.ScriptGrammar.{clear}
-use Rattle.apei_script.specs.Players.{in_use}
+use Rattle.apei_script.proofs.SessionLines.{in_use}
 use Rattle.apei_script.proofs.Asking.{asked_to_clear}
 use Rattle.apei_script.proofs.CommandLemmas.{played_by_other, played_by_own, answers_clear}
 use Rattle.apei_script.proofs.session.Session.clear.Goals as goal

@@ -1,6 +1,6 @@
 use Rattle.std.proofs.Common.{◌∙◌, Some, ap}
 use Rattle.script_text.specs.ScriptGrammar.{count}
-use Rattle.apei_script.specs.Players.{in_use}
+use Rattle.apei_script.proofs.SessionLines.{in_use}
 use Rattle.apei_script.proofs.Asking.{asked_to_count}
 use Rattle.apei_script.proofs.CommandLemmas.{played_by_other, played_by_own, answers_count}
 use Rattle.apei_script.proofs.session.Session.count.Goals as goal

@@ -1,6 +1,6 @@
 use Rattle.std.proofs.Common.{◌∙◌, Some, ap}
 use Rattle.script_text.specs.ScriptGrammar.{next}
-use Rattle.apei_script.specs.Players.{in_use}
+use Rattle.apei_script.proofs.SessionLines.{in_use}
 use Rattle.apei_script.proofs.Asking.{asked_for_next}
 use Rattle.apei_script.proofs.CommandLemmas.{played_by_other, played_by_own, answers_next}
 use Rattle.apei_script.proofs.session.Session.next.Goals as goal

@@ -1,6 +1,7 @@
 use Rattle.std.proofs.Common.{◌∙◌, Some, ap, refl, sym, subst}
-use Rattle.apei_script.specs.Players.{Asker, in_use}
+use Rattle.apei_script.specs.Players.{Asker}
 use Rattle.apei_script.specs.Asked.{ReadAsked}
+use Rattle.apei_script.proofs.SessionLines.{in_use}
 use Rattle.apei_script.proofs.CommandLemmas.{read_played, same_asker}
 use Rattle.apei_script.proofs.session.Session.read.Goals as goal
 

@@ -1,7 +1,7 @@
 use Rattle.std.proofs.Common.{◌∙◌, Some, ap, arith}
 use Rattle.hex.specs.Hex.{encode_lower}
 use Rattle.script_text.specs.ScriptGrammar.{write}
-use Rattle.apei_script.specs.Players.{in_use}
+use Rattle.apei_script.proofs.SessionLines.{in_use}
 use Rattle.apei_script.proofs.Asking.{asked_to_write}
 use Rattle.apei_script.proofs.CommandLemmas.{are_decoded, played_by_other, played_by_own, answers_write}
 use Rattle.apei_script.proofs.session.Session.write.Goals as goal
