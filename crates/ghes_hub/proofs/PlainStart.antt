@@ -17,7 +17,8 @@ use Rattle.ghes_ack.proofs.StartLemmas.{fresh_is, fresh_agrees, submits_more}
 use Rattle.ghes_ack.proofs.ElsewhereLemmas.{SameWhere-then, SameWhere-stored}
 use Rattle.ghes_hub.specs.declared.plain.map.PlainMap.{PlainMap}
 use Rattle.ghes_ack.specs.declared.ends.Ends.{Ends}
-use Rattle.ghes_hub.specs.Places.{IsOff, plain_places_of}
+use Rattle.ghes_hub.specs.Places.{IsOff, layout_windows}
+use Rattle.ghes_hub.specs.declared.layouts.Layout.TheVariants.{Plain as WithStatus}
 use Rattle.ghes_ack.specs.Windows.{block_bytes, address_at, HasAddressed}
 use Rattle.ghes_hub.specs.Plain.{with_plain_window, with_plain_address, plain_started, PlainState, PlainStands}
 use Rattle.ghes_ack.specs.Handovers.{fresh, over}
@@ -54,19 +55,19 @@ pub waiting_of : (ends : Option Ends) (b : Blocks PlainMap) → AreConsistent en
 waiting_of None b all = absurd all
 waiting_of (Some ends) b all = length-map b.waiting.items (λ v. v.items) ∙ all.sound.room.counted
 
-pub plain_elsewhere : (map : PlainMap) (ram : RamState) (bytes : List ℕ) → HasAddressed map.status map.window ram → length bytes ≡ map.window.len → SameWhere (IsOff (plain_places_of map)) ram (with_plain_window map ram bytes)
-plain_elsewhere map ram bytes w n = let b = block_placed map.status map.window ram w in SameWhere-stored (IsOff (plain_places_of map)) ram (Memory map.window.block) map.window.len b.0 bytes w.fills b.1 n (block_some map.status map.window ram w) (λ at k off. off.1.0)
+pub plain_elsewhere : (map : PlainMap) (ram : RamState) (bytes : List ℕ) → HasAddressed map.status map.window ram → length bytes ≡ map.window.len → SameWhere (IsOff (layout_windows (WithStatus map))) ram (with_plain_window map ram bytes)
+plain_elsewhere map ram bytes w n = let b = block_placed map.status map.window ram w in SameWhere-stored (IsOff (layout_windows (WithStatus map))) ram (Memory map.window.block) map.window.len b.0 bytes w.fills b.1 n (block_some map.status map.window ram w) (λ at k off. off.1.0)
 
-pub plain_elsewhere_started : (map : PlainMap) (ram new : RamState) → HasAddressed map.status map.window ram → new ≡ plain_started map ram → SameWhere (IsOff (plain_places_of map)) ram new
+pub plain_elsewhere_started : (map : PlainMap) (ram new : RamState) → HasAddressed map.status map.window ram → new ≡ plain_started map ram → SameWhere (IsOff (layout_windows (WithStatus map))) ram new
 plain_elsewhere_started map ram new w is =
     let a : RamState = with_plain_address map ram in
     let p = status_placed map.status map.window ram w in
     let wide = length-plain_status map ram (spelled 4 0) (length-spelled 4 0) w in
-    let one = SameWhere-stored (IsOff (plain_places_of map)) ram (Memory map.status) 8 p.0 (spelled 8 map.window.block) w.fills p.1 (length-spelled 8 map.window.block) (omega arith) (λ at k off. off.0) in
-    subst (SameWhere (IsOff (plain_places_of map)) ram) (sym is)
-    (SameWhere-then (IsOff (plain_places_of map)) ram a (plain_started map ram) one (plain_elsewhere map a (with_status (block_bytes map.window ram) (spelled 4 0)) (HasPlain-with_address map ram w) wide))
+    let one = SameWhere-stored (IsOff (layout_windows (WithStatus map))) ram (Memory map.status) 8 p.0 (spelled 8 map.window.block) w.fills p.1 (length-spelled 8 map.window.block) (omega arith) (λ at k off. off.0) in
+    subst (SameWhere (IsOff (layout_windows (WithStatus map))) ram) (sym is)
+    (SameWhere-then (IsOff (layout_windows (WithStatus map))) ram a (plain_started map ram) one (plain_elsewhere map a (with_status (block_bytes map.window ram) (spelled 4 0)) (HasPlain-with_address map ram w) wide))
 
-pub plain_turn_elsewhere : (side : Side) (event : Event) (h after : PlainState) (ram new : RamState) (m : Machine) → PlainStands h ram m → Turns side event (over h ram) (over after new) m → SameWhere (IsOff (plain_places_of h.map)) ram new
+pub plain_turn_elsewhere : (side : Side) (event : Event) (h after : PlainState) (ram new : RamState) (m : Machine) → PlainStands h ram m → Turns side event (over h ram) (over after new) m → SameWhere (IsOff (layout_windows (WithStatus h.map))) ram new
 plain_turn_elsewhere side event h after ram new m st t =
     let w : HasAddressed h.map.status h.map.window new = subst (λ (at : PlainMap). HasAddressed at.status at.window new) t.map t.stands.windows in
-    subst (SameWhere (IsOff (plain_places_of h.map)) ram) (sym t.memory_is) (plain_elsewhere h.map ram (block_bytes h.map.window new) st.windows (length-window h.map.status h.map.window new w))
+    subst (SameWhere (IsOff (layout_windows (WithStatus h.map))) ram) (sym t.memory_is) (plain_elsewhere h.map ram (block_bytes h.map.window new) st.windows (length-window h.map.status h.map.window new w))

@@ -20,8 +20,10 @@ use Rattle.ghes_hub.specs.Kinds.{Kind, turned_by}
 use Rattle.ghes_ack.specs.Kept.{Agrees, kept_over}
 use Rattle.ghes_hub.proofs.PlainMemory.{plain_windows_kept}
 use Rattle.ghes_hub.specs.Plain.{PlainState, PlainStands}
-use Rattle.ghes_hub.specs.Places.{places_of, plain_places_of, IsOff, AreClear}
-use Rattle.ghes_hub.specs.OneSource.{kind_of, layout_in, windows_of, SourceStands, Stands, SamePlaces, SourceTurned}
+use Rattle.ghes_hub.specs.declared.layouts.Layout.TheVariants.{Acknowledged as WithRegister, Plain as WithStatus}
+use Rattle.ghes_hub.specs.Layouts.{layout_kind}
+use Rattle.ghes_hub.specs.Places.{layout_windows, IsOff, AreClear}
+use Rattle.ghes_hub.specs.OneSource.{layout_in, windows_of, SourceStands, Stands, SamePlaces, SourceTurned}
 use Rattle.ghes_hub.specs.SourcesState.{SourcesState, layouts_in, AreServed, StandsAt}
 
 pub slice_get-same : {X : Type 0} (xs : List X) (i : ℕ) (y : X) → i < length xs → slice_get (set xs i y) i ≡ Some y
@@ -39,7 +41,7 @@ slice_get-other {X} xs i j y other = elim (cases_lt j (length xs)) [
       slice_get_past (set xs i y) j (omega (arith, n, past)) ∙ sym (slice_get_past xs j past)
 ]
 
-pub same_in_map : (map : HandoverMap) (windows : List Window) (old new : RamState) → AreClear windows (places_of map) → SameWhere (IsOff windows) old new → SameInMap map old new
+pub same_in_map : (map : HandoverMap) (windows : List Window) (old new : RamState) → AreClear windows (layout_windows (WithRegister map)) → SameWhere (IsOff windows) old new → SameInMap map old new
 same_in_map map windows old new clear s = record {
   windows = s.windows;
   size = s.size;
@@ -48,7 +50,7 @@ same_in_map map windows old new clear s = record {
   block = s.bytes (Memory map.block) map.len clear.1.1.0;
 }
 
-kept_by : (h : PlainState) (windows : List Window) (old new : RamState) (m : Machine) → AreClear windows (plain_places_of h.map) → SameWhere (IsOff windows) old new → PlainStands h old m → PlainStands h new m
+kept_by : (h : PlainState) (windows : List Window) (old new : RamState) (m : Machine) → AreClear windows (layout_windows (WithStatus h.map)) → SameWhere (IsOff windows) old new → PlainStands h old m → PlainStands h new m
 kept_by h windows old new m clear s st = record {
   agrees = subst (λ (bytes : List ℕ). Agrees (kept_over h.map.window.len h bytes) m) (sym (s.bytes (Memory h.map.window.block) h.map.window.len clear.1.0)) st.agrees;
   windows = plain_windows_kept h.map old new s.windows s.size st.windows;
@@ -112,25 +114,25 @@ same_post list i p q a b = let both = sym a ∙ b in cc
 
 -- the source itself
 pub turns_at : (ram new : RamState) (list : List Source) (i : ℕ) (before after : Source) (side : Side) (event : Event) → Moves ram new list i before after →
-    ((m : Machine) → SourceStands before ram m → SourceTurned (kind_of before) side event after new m) →
+    ((m : Machine) → SourceStands before ram m → SourceTurned (layout_kind (layout_in before)) side event after new m) →
     (kind : Kind) (m : Machine) → StandsAt kind (record { ram = ram; list = list }) i m →
     (event ≡ (turned_by kind side m).0) × StandsAt kind (record { ram = new; list = set list i after }) i (turned_by kind side m).1
 turns_at ram new list i before after side event h turned kind m at =
     let e : at.handover ≡ before = same_post list i at.handover before at.is h.is in
-    let k : kind_of before ≡ kind = ap kind_of (sym e) ∙ at.kind_is in
+    let k : layout_kind (layout_in before) ≡ kind = ap (λ (p : Source). layout_kind (layout_in p)) (sym e) ∙ at.kind_is in
     let t : SourceTurned kind side event after new m = subst (λ (x : Kind). SourceTurned x side event after new m) k (turned m (subst (λ (p : Source). SourceStands p ram m) e at.stands)) in
-    (t.event_is, record { handover = after; is = slice_get-same list i after h.within; kind_is = h.places.kind ∙ k; stands = t.stands })
+    (t.event_is, record { handover = after; is = slice_get-same list i after h.within; kind_is = ap layout_kind h.places.layout ∙ k; stands = t.stands })
 
 pub submits_at : (ram : RamState) (list : List Source) (i : ℕ) (before after : Source) (block : List ℕ) → Moves ram ram list i before after →
     ((any : RamState) (m : Machine) → SourceStands before any m → SourceStands after any (submitted m block)) →
     (kind : Kind) (m : Machine) → StandsAt kind (record { ram = ram; list = list }) i m → StandsAt kind (record { ram = ram; list = set list i after }) i (submitted m block)
 submits_at ram list i before after block h stands kind m at =
     let e : at.handover ≡ before = same_post list i at.handover before at.is h.is in
-    let k : kind_of before ≡ kind = ap kind_of (sym e) ∙ at.kind_is in
+    let k : layout_kind (layout_in before) ≡ kind = ap (λ (p : Source). layout_kind (layout_in p)) (sym e) ∙ at.kind_is in
     record {
       handover = after;
       is = slice_get-same list i after h.within;
-      kind_is = h.places.kind ∙ k;
+      kind_is = ap layout_kind h.places.layout ∙ k;
       stands = stands ram m (subst (λ (p : Source). SourceStands p ram m) e at.stands);
     }
 
@@ -149,7 +151,7 @@ pub stands_after : {A E : Type 0} (r : Result A E) (ram : RamState) (before afte
 stands_after (Ok a) ram before after block added kept (m, st) = (submitted m block, added ram m st)
 stands_after (Err e) ram before after block added kept st = subst (λ (p : Source). Stands p ram) (sym kept) st
 
-pub stands_here : (ram : RamState) (list : List Source) (i : ℕ) (p : Source) (m : Machine) → slice_get list i ≡ Some p → SourceStands p ram m → StandsAt (kind_of p) (record { ram = ram; list = list }) i m
+pub stands_here : (ram : RamState) (list : List Source) (i : ℕ) (p : Source) (m : Machine) → slice_get list i ≡ Some p → SourceStands p ram m → StandsAt (layout_kind (layout_in p)) (record { ram = ram; list = list }) i m
 stands_here ram list i p m is st = record { handover = p; is = is; kind_is = refl; stands = st }
 
 pub if_some : {X : Type 0} (o : Option X) (x : X) (P : X → Type 0) → o ≡ Some x → P x → IfSome o P

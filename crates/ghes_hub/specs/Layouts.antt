@@ -1,6 +1,5 @@
 -- Layouts of sources in a memory.
 use Rattle.std.specs.Prelude.{◌≡◌, ◌≢◌, ℕ, ◌≤◌, List, length, map, take, Some, slice_get}
-use Rattle.apei_space.specs.declared.windows.Window.{Window}
 use Rattle.apei_space.specs.RamState.{RamState}
 use Rattle.ghes_ack.specs.Machine.{started}
 use Rattle.ghes_ack.specs.Maps.{HasAckBits, HasWindows, window}
@@ -9,16 +8,13 @@ use Rattle.ghes_hub.specs.declared.layouts.Layout.TheVariants.{Acknowledged, Pla
 use Rattle.ghes_hub.specs.declared.source.Source.{Source}
 use Rattle.ghes_hub.specs.Kinds.{Kind, ByRegister, ByStatus}
 use Rattle.ghes_ack.specs.Windows.{block_bytes, HasAddressed}
-use Rattle.ghes_hub.specs.Places.{places_of, plain_places_of, AreClear}
-use Rattle.ghes_hub.specs.OneSource.{kind_of, layout_in, windows_of, SourceStands}
+use Rattle.ghes_hub.specs.Places.{AreClear}
+pub use Rattle.ghes_hub.specs.Places.{layout_windows}
+use Rattle.ghes_hub.specs.OneSource.{layout_in, windows_of, SourceStands}
 
 abbrev pub layout_kind : Layout → Kind
 layout_kind (Acknowledged map) = ByRegister
 layout_kind (Plain map) = ByStatus
-
-abbrev pub layout_windows : Layout → List Window
-layout_windows (Acknowledged map) = places_of map
-layout_windows (Plain map) = plain_places_of map
 
 -- the memory has its windows
 abbrev pub HasLayout : Layout → RamState → Type 0
@@ -38,7 +34,7 @@ pub record AreLaidOut (layouts : List Layout) (ram : RamState) : Type 0 where
 pub record IsBegun (layouts : List Layout) (first ram : RamState) (i : ℕ) (handover : Source) : Type 0 where
   pub layout : Layout
   pub is : slice_get layouts i ≡ Some layout
-  pub kind : kind_of handover ≡ layout_kind layout
+  pub kind : layout_kind (layout_in handover) ≡ layout_kind layout
   pub windows : windows_of handover ≡ layout_windows layout
   pub stands : SourceStands handover ram (started (layout_window layout first))
 

@@ -12,13 +12,9 @@ use Rattle.ghes_hub.specs.declared.layouts.Layout.{Layout}
 use Rattle.ghes_hub.specs.declared.layouts.Layout.TheVariants.{Acknowledged as WithRegister, Plain as WithStatus}
 use Rattle.ghes_hub.specs.declared.source.Source.{Source}
 use Rattle.ghes_hub.specs.declared.source.Source.TheVariants.{Acknowledged, Plain}
-use Rattle.ghes_hub.specs.Kinds.{Kind, ByRegister, ByStatus, turned_by}
+use Rattle.ghes_hub.specs.Kinds.{Kind, turned_by}
 use Rattle.ghes_hub.specs.Plain.{PlainStands}
-use Rattle.ghes_hub.specs.Places.{places_of, plain_places_of}
-
-abbrev pub kind_of : Source → Kind
-kind_of (Acknowledged h) = ByRegister
-kind_of (Plain h) = ByStatus
+use Rattle.ghes_hub.specs.Places.{layout_windows}
 
 -- where its parts lie
 abbrev pub layout_in : Source → Layout
@@ -26,8 +22,7 @@ layout_in (Acknowledged h) = WithRegister h.map
 layout_in (Plain h) = WithStatus h.map
 
 abbrev pub windows_of : Source → List Window
-windows_of (Acknowledged h) = places_of h.map
-windows_of (Plain h) = plain_places_of h.map
+windows_of handover = layout_windows (layout_in handover)
 
 abbrev pub SourceStands : Source → RamState → Machine → Type 0
 SourceStands (Acknowledged h) ram m = StandsFor h ram m
@@ -53,7 +48,6 @@ refusal_of (Plain h) block = refusal_within h.map.window.len block (length h.wai
 -- the same source in another state
 pub record SamePlaces (old new : Source) : Type 0 where
   pub layout : layout_in new ≡ layout_in old
-  pub kind : kind_of new ≡ kind_of old
   pub windows : windows_of new ≡ windows_of old
 
 -- a turn, from a state of the machine: the machine's event, and afterwards it stands for the machine's next state

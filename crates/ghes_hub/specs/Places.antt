@@ -4,21 +4,18 @@ use Rattle.apei_tables.specs.declared.registers.Place.{Place}
 use Rattle.apei_tables.specs.declared.registers.Place.TheVariants.{Memory}
 use Rattle.apei_space.specs.declared.windows.Window.{Window}
 use Rattle.apei_space.specs.Mapped.{AreDisjoint}
-use Rattle.ghes_ack.specs.declared.maps.HandoverMap.{HandoverMap}
 use Rattle.ghes_ack.specs.Maps.{ack_bytes}
-use Rattle.ghes_hub.specs.declared.plain.map.PlainMap.{PlainMap}
+use Rattle.ghes_hub.specs.declared.layouts.Layout.{Layout}
+use Rattle.ghes_hub.specs.declared.layouts.Layout.TheVariants.{Acknowledged, Plain}
 
--- the three windows of a handover with an acknowledgement: the block's address, the register, the block
-abbrev pub places_of : HandoverMap → List Window
-places_of map =
+-- the block's address, the acknowledge register if there is one, and the block
+abbrev pub layout_windows : Layout → List Window
+layout_windows (Acknowledged map) =
     record { place = Memory map.status; len = 8 }
     ∷ record { place = map.ack.place; len = ack_bytes map }
     ∷ record { place = Memory map.block; len = map.len }
     ∷ []
-
--- and the two of a plain one
-abbrev pub plain_places_of : PlainMap → List Window
-plain_places_of map = record { place = Memory map.status; len = 8 } ∷ record { place = Memory map.window.block; len = map.window.len } ∷ []
+layout_windows (Plain map) = record { place = Memory map.status; len = 8 } ∷ record { place = Memory map.window.block; len = map.window.len } ∷ []
 
 -- n bytes at a place have none in common with any of some windows
 abbrev pub IsOff : List Window → Place → ℕ → Type 0

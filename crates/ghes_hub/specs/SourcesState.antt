@@ -6,7 +6,8 @@ use Rattle.ghes_hub.specs.declared.layouts.Layout.{Layout}
 use Rattle.ghes_hub.specs.declared.source.Source.{Source}
 use Rattle.ghes_hub.specs.Kinds.{Kind}
 use Rattle.ghes_hub.specs.Places.{AreClear}
-use Rattle.ghes_hub.specs.OneSource.{kind_of, layout_in, windows_of, SourceStands, Stands}
+use Rattle.ghes_hub.specs.OneSource.{layout_in, windows_of, SourceStands, Stands}
+use Rattle.ghes_hub.specs.Layouts.{layout_kind}
 
 pub record SourcesState : Type 0 where
   pub ram : RamState
@@ -25,5 +26,5 @@ pub record AreServed (ram : RamState) (list : List Source) : Type 0 where
 pub record StandsAt (kind : Kind) (s : SourcesState) (i : ℕ) (m : Machine) : Type 0 where
   pub handover : Source
   pub is : slice_get s.list i ≡ Some handover
-  pub kind_is : kind_of handover ≡ kind
+  pub kind_is : layout_kind (layout_in handover) ≡ kind
   pub stands : SourceStands handover s.ram m

@@ -5,7 +5,7 @@ ghost use Rattle.ghes_ack.specs.Machine.{Machine, started, submitted};
 ghost use Rattle.ghes_ack.specs.Elsewhere.{SameWhere};
 ghost use Rattle.ghes_hub.specs.Layouts.{HasLayout, layout_kind, layout_windows, layout_window};
 ghost use Rattle.ghes_hub.specs.Places.{IsOff};
-ghost use Rattle.ghes_hub.specs.OneSource.{SourceStands, Stands, SamePlaces, SourceTurned, kind_of, layout_in, windows_of, last_of, waiting_of, refusal_of};
+ghost use Rattle.ghes_hub.specs.OneSource.{SourceStands, Stands, SamePlaces, SourceTurned, layout_in, windows_of, last_of, waiting_of, refusal_of};
 
 use crate::layouts::Layout;
 use crate::plain::PlainHandover;
@@ -27,7 +27,6 @@ impl Source {
         ensures stands { IfOk result (λ handover. SourceStands handover ram.new
             (started (layout_window layout ram.old))) }
         ensures layout { IfOk result (λ handover. layout_in handover ≡ layout) }
-        ensures kind { IfOk result (λ handover. kind_of handover ≡ layout_kind layout) }
         ensures windows { IfOk result (λ handover. windows_of handover ≡ layout_windows layout) }
         ensures elsewhere { SameWhere (IsOff (layout_windows layout)) ram.old ram.new }
     {
@@ -55,7 +54,7 @@ impl Source {
     pub fn turn(&mut self, side: Side, ram: &mut Ram) -> Event
         requires { Stands self.old ram.old }
         ensures turned { (m : Machine) → SourceStands self.old ram.old m
-            → SourceTurned (kind_of self.old) side result self.new ram.new m }
+            → SourceTurned (layout_kind (layout_in self.old)) side result self.new ram.new m }
         ensures elsewhere { SameWhere (IsOff (windows_of self.old)) ram.old ram.new }
         ensures places { SamePlaces self.old self.new }
     {

@@ -1,7 +1,7 @@
 use Rattle.std.proofs.Common.{◌≡◌, ◌∙◌, List, ◌∷◌, [], length, length-append, Some, slice_get, sym, ap, subst, arith, refl}
 use Rattle.std.proofs.lemmas.Option.{slice_get_read}
 use Rattle.ghes_hub.specs.declared.source.Source.{Source}
-use Rattle.ghes_hub.specs.Layouts.{AreBegun}
+use Rattle.ghes_hub.specs.Layouts.{AreBegun, layout_kind}
 use Rattle.ghes_hub.proofs.BeginLemmas.{one_begun, begun_served}
 use Rattle.ghes_hub.proofs.sources.Sources.begin.Goals as goal
 
@@ -20,7 +20,7 @@ loop-layout-preserved c =
       omega (arith, pushed, len, longer),
       c.push_reserved.ensures.capacity ∙ inv.1,
       subst (λ (xs : List Source). AreBegun layouts c.args.ram c.new.new.ram xs) (sym c.push_reserved.ensures.items)
-          (one_begun layouts c.args.ram c.loop-layout.ram c.new.new.ram list layout c.in-Ok.handover c.requires here c.in-Ok.ensures.stands c.in-Ok.ensures.layout c.in-Ok.ensures.kind c.in-Ok.ensures.windows c.new.ensures.elsewhere inv.2),
+          (one_begun layouts c.args.ram c.loop-layout.ram c.new.new.ram list layout c.in-Ok.handover c.requires here c.in-Ok.ensures.stands c.in-Ok.ensures.layout (ap layout_kind c.in-Ok.ensures.layout) c.in-Ok.ensures.windows c.new.ensures.elsewhere inv.2),
     )
 
 pub invariant_of-result : goal.invariant_of-result

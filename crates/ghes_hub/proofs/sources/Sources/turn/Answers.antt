@@ -1,5 +1,6 @@
 use Rattle.ghes_hub.proofs.SourceLemmas.{Moves, moves, same_layouts, of_view, served, others_stand, turns_at, stands_here}
-use Rattle.ghes_hub.specs.OneSource.{kind_of}
+use Rattle.ghes_hub.specs.OneSource.{layout_in}
+use Rattle.ghes_hub.specs.Layouts.{layout_kind}
 use Rattle.ghes_hub.proofs.HubLemmas.{took_head}
 use Rattle.std.proofs.Common.{set}
 use Rattle.ghes_hub.proofs.sources.Sources.turn.Goals as goal
@@ -40,8 +41,8 @@ returns-clause-took c =
     let h = moved (goal.at.returns-clause-took c).After-turn in
     let (m, st) = c.self.invariant.stands c.args.source before h.is in
     let at = stands_here ram list c.args.source before m h.is st in
-    λ took. took_head (kind_of before) c.args.side c.turn.result c.args.source (record { ram = ram; list = list }) (record { ram = c.turn.new.ram; list = set list c.args.source c.turn.new.self }) m at
-    (turns_at ram c.turn.new.ram list c.args.source before c.turn.new.self c.args.side c.turn.result h c.turn.ensures.turned (kind_of before) m at) took
+    λ took. took_head (layout_kind (layout_in before)) c.args.side c.turn.result c.args.source (record { ram = ram; list = list }) (record { ram = c.turn.new.ram; list = set list c.args.source c.turn.new.self }) m at
+    (turns_at ram c.turn.new.ram list c.args.source before c.turn.new.self c.args.side c.turn.result h c.turn.ensures.turned (layout_kind (layout_in before)) m at) took
 
 pub returns-clause-layouts : goal.returns-clause-layouts
 returns-clause-layouts c =
