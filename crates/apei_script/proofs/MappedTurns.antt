@@ -8,18 +8,29 @@ use Rattle.erst_machine.specs.Shown.{changes_of, shown_by}
 use Rattle.erst_machine.proofs.CrashTrail.{shown_alike}
 use Rattle.erst_commands.specs.Attached.{own_client}
 use Rattle.erst_commands.specs.OwnPrograms.{OwnProgramsRun}
+use Rattle.erst_commands.specs.Writes.{WriteAnswered}
+use Rattle.erst_bridge.specs.declared.events.BridgeEvent.TheVariants.{Stored, Kept, Out}
 use Rattle.erst_bridge.specs.BridgedRecord.{bridged}
-use Rattle.erst_bridge.specs.Bridges.{BridgeState, TurnsReader, Stores, Keeps, RunsOut}
+use Rattle.erst_bridge.specs.Bridges.{BridgeState, Holds, TurnsReader, Stores, Keeps, RunsOut}
 use Rattle.erst_bridge.specs.Turns.{Turn, OfFirmware, OfBridge, Step, IsTurn, AreTurns}
 use Rattle.erst_bridge.proofs.TrailLemmas.{turn_keeps, turn_goes_on, turns_go_on, own_on}
 use Rattle.erst_bridge.proofs.CrashLemmas.{own_write}
-use Rattle.apei_script.specs.Bridged.{EachTurn, TurnIsMapped}
+use Rattle.apei_script.specs.Bridged.{EachTurn}
+
+-- a turn makes of the records what the record map has it make
+abbrev IsMapped : ℕ → BridgeState → MachineState → Turn → MachineState → Type 0
+IsMapped budget state old turn new = elim turn [
+  | OfBridge (Stored id) ↦ (block : List ℕ) × (left : ℕ) × (state ≡ Holds id block) × WriteAnswered (bridged block id) budget old (Ok tt) left new
+  | OfBridge (Kept error) ↦ (id : ℕ) × (block : List ℕ) × (left : ℕ) × (state ≡ Holds id block) × WriteAnswered (bridged block id) budget old (Err error) left new
+  | OfBridge Out ↦ new ≡ old
+  | other ↦ new.device ≡ old.device
+]
 
 module _ (tells : Type 0) (programs : OwnProgramsRun tells) (told : tells) (client : ClientState) (budget : ℕ) where
   turn_mapped : (state : BridgeState) (old : MachineState) (turn : Turn) (next : BridgeState) (new : MachineState) → client ≡ own_client old → IsMachine old
-      → IsTurn tells client budget state old turn next new → TurnIsMapped budget state old (record { turn = turn; bridge = next; machine = new })
+      → IsTurn tells client budget state old turn next new → IsMapped budget state old turn new
   turn_mapped state old (OfFirmware event) next new own machine is = is.1.device
-  turn_mapped state old (OfBridge event) next new own machine is = elim is.1 as (λ state event after turn. TurnIsMapped budget state old (record { turn = OfBridge event; bridge = after.bridge; machine = after.station })) [
+  turn_mapped state old (OfBridge event) next new own machine is = elim is.1 as (λ state event after turn. IsMapped budget state old (OfBridge event) after.station) [
     | TurnsReader id bridge event new none reads ↦ reads.device
     | Stores id block left new small writes ↦ (block, left, refl, own_write tells programs told client budget old own machine (bridged block id) (Ok tt) left new writes)
     | Keeps id block error left new small writes ↦ (id, block, left, refl, own_write tells programs told client budget old own machine (bridged block id) (Err error) left new writes)
@@ -27,7 +38,7 @@ module _ (tells : Type 0) (programs : OwnProgramsRun tells) (told : tells) (clie
   ]
 
   pub turns_mapped : (state : BridgeState) (old : MachineState) (steps : List Step) (next : BridgeState) (last : MachineState) → client ≡ own_client old → IsMachine old
-      → AreTurns tells client budget state old steps next last → EachTurn (TurnIsMapped budget) state old steps
+      → AreTurns tells client budget state old steps next last → EachTurn (λ now before step. IsMapped budget now before step.turn step.machine) state old steps
   turns_mapped state old [] next last own machine are = tt
   turns_mapped state old (step ∷ rest) next last own machine (first, behind) =
       let own_now = own_on tells client budget told state old step.turn step.bridge step.machine first own in

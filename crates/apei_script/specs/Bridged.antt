@@ -93,18 +93,6 @@ KeepsBlocks spared s state old steps shown = EachTurn (λ now before step. elim 
   | other ↦ Unit {0}
 ]) state old steps
 
--- a turn that is answered `Stored` or `Kept` is a write of the held block's record, with so many steps, answered as the record map has it; `Out`
--- leaves everything, and each other turn leaves the device and its records
-abbrev pub TurnIsMapped : ℕ → BridgeState → MachineState → Step → Type 0
-TurnIsMapped budget state old step = elim step.turn [
-  | OfBridge (Stored id) ↦
-      (block : List ℕ) × (left : ℕ) × (state ≡ Holds id block) × WriteAnswered (bridged block id) budget old (Ok tt) left step.machine
-  | OfBridge (Kept error) ↦
-      (id : ℕ) × (block : List ℕ) × (left : ℕ) × (state ≡ Holds id block) × WriteAnswered (bridged block id) budget old (Err error) left step.machine
-  | OfBridge Out ↦ step.machine ≡ old
-  | other ↦ step.machine.device ≡ old.device
-]
-
 -- What power lost in the turns of a line shows, and what the turns make of the records. A line that made no turn of the bridge is none of these
 pub record TurnsShown (budget : ℕ) (state : BridgeState) (old : MachineState) (steps : List Step) (new : MachineState) : Type 0 where
   -- the records after the turns that had ended by then, or as the next one leaves them where nothing fails
@@ -115,6 +103,15 @@ pub record TurnsShown (budget : ℕ) (state : BridgeState) (old : MachineState) 
   -- and the record of each block that they had stored by then
   pub stored : (s : ℕ) (image : List ℕ) → changes_of old ≤ s → CrashImage (told_of new) s image
       → KeepsBlocks (λ id. Unit {0}) s state old steps (shown_by old image)
-  -- each turn makes of the records what the record map has it make, and at the step at which it ended the image showed these
-  pub mapped : EachTurn (TurnIsMapped budget) state old steps
+  -- Each turn makes of the records what the record map has it make: one that is answered `Stored` or `Kept` is a write of the held block's
+  -- record, with so many steps, answered as the map has it; `Out` leaves everything, and each other turn leaves the device and its records
+  pub mapped : EachTurn (λ now before step. elim step.turn [
+    | OfBridge (Stored id) ↦
+        (block : List ℕ) × (left : ℕ) × (now ≡ Holds id block) × WriteAnswered (bridged block id) budget before (Ok tt) left step.machine
+    | OfBridge (Kept error) ↦
+        (id : ℕ) × (block : List ℕ) × (left : ℕ) × (now ≡ Holds id block) × WriteAnswered (bridged block id) budget before (Err error) left step.machine
+    | OfBridge Out ↦ step.machine ≡ before
+    | other ↦ step.machine.device ≡ before.device
+  ]) state old steps
+  -- and at the step at which each turn ended the image showed the records that it leaves
   pub ends : EachTurn (λ now before step. shown_by before (image_at (told_of new) (changes_of step.machine)) ≡ records_of step.machine) state old steps

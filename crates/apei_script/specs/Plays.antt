@@ -124,21 +124,20 @@ has_one_reply bert = false
 has_one_reply heard = false
 has_one_reply line = true
 
--- a line asks the client in use
-abbrev pub asks_client : Line → Bool
-asks_client (write hex) = true
-asks_client (read id) = true
-asks_client (clear id) = true
-asks_client count = true
-asks_client next = true
-asks_client dummy = true
-asks_client (action code value) = true
-asks_client line = false
-
 -- a line that asks the client for a command on records
 abbrev pub names_command : Line → Bool
-names_command (action code value) = false
-names_command line = asks_client line
+names_command (write hex) = true
+names_command (read id) = true
+names_command (clear id) = true
+names_command count = true
+names_command next = true
+names_command dummy = true
+names_command line = false
+
+-- a line that asks the client in use: for that, or to run an action
+abbrev pub asks_client : Line → Bool
+asks_client (action code value) = true
+asks_client line = names_command line
 
 -- a line that neither runs an action nor gives a table
 abbrev pub IsOwnLine : Line → Type 0
