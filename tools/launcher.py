@@ -114,12 +114,9 @@ def build(program: Program) -> tuple[int, bool]:
         return 0, False
     if is_built and not which("rt"):
         return 0, True
-    # Where `apei` is built so is what looks at a file before `play` does, which takes little beside it.
-    crates = [program.crate, "apei_look"] if program.name == "apei" else [program.crate]
-    status = build_all(crates)
+    status = build_all([program.crate])
     if status == 0:
-        for crate in crates:
-            os.utime(Program(crate.replace("_", "-")).path)
+        os.utime(program.path)
     return (status if status >= 0 else 128 - status), False
 
 
