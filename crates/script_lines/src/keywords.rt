@@ -1,6 +1,6 @@
 // The keyword at the front of a line.
-ghost use Rattle.std.specs.Prelude.{◌≡◌, ℕ, List, ◌++◌, length, drop, MatchResult};
-ghost use Rattle.script_lines.specs.Keywords.{common_length, HasNoKeyword};
+ghost use Rattle.std.specs.Prelude.{◌≡◌, ℕ, List, MatchResult};
+ghost use Rattle.script_lines.specs.Keywords.{common_length, HasNoKeyword, IsFirstKeyword};
 
 /// A word that lines of a language begin with, together with the space behind it where something follows.
 pub trait Keyword: Copy {
@@ -24,10 +24,10 @@ pub fn common_len(text: &[u8], word: &[u8]) -> usize
     word.len()
 }
 
-/// The keyword that a text begins with, or how far it goes along with one.
+/// The first of the keywords that a text begins with, or how far it goes along with one.
 pub fn keyword_of<K: Keyword>(text: &[u8], keywords: &[K]) -> Result<K, usize>
     ensures { MatchResult result
-        (λ keyword. text.now ≡ K.codes keyword ++ drop (length (K.codes keyword)) text.now)
+        (IsFirstKeyword K.codes text.now keywords.now)
         (λ reach. HasNoKeyword K.codes text.now reach keywords.now) }
 {
     let mut reach = 0;

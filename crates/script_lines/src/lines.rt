@@ -251,6 +251,7 @@ impl LineReader {
     fn fill<I: Source>(&mut self, script: &mut I) -> Result<usize, ReadFailed>
         requires { length self.old.pending ≤ LONGEST_LINE }
         ensures place { SamePlace self.old self.new }
+        ensures line { self.new.line ≡ [] }
         ensures more { IfOk result (TakesMore I.tells self.old self.new (I.rest script.old) (I.rest script.new)) }
         ensures none { OnErr result (TakesMore I.tells self.old self.new (I.rest script.old) (I.rest script.new) 0) }
         ensures end { I.tells → result ≡ Ok 0 → I.rest script.old ≡ [] }

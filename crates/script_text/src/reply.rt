@@ -91,6 +91,7 @@ impl Reply {
         ensures room { OnOk result (length self.new ≤ 16384) }
         ensures shown { OnOk result (AreShown O.tells (O.written out.old) (O.written out.new) self.new self.old) }
         ensures part { OnErr result (O.tells → IsPartWritten self.old (O.written out.old) (O.written out.new)) }
+        ensures kept { OnErr result (self.new ≡ self.old) }
         ensures waits { length self.old ≤ 16384 → (self.new ≡ self.old) × (out.new ≡ out.old) }
         ensures cause { HasCause (O.faults out.old) (O.faults out.new) result }
     {

@@ -1,5 +1,6 @@
-use Rattle.std.proofs.Common.{arith, ℕ, List, sym, ap, ◌∙◌, ◌≡◌, ◌<◌, subst, length, inl, inr}
+use Rattle.std.proofs.Common.{arith, ℕ, List, refl, sym, ap, ◌∙◌, ◌≡◌, ◌<◌, subst, length, inl, inr}
 use Rattle.std.proofs.lemmas.List.{take_all}
+use Rattle.std.proofs.lemmas.Option.{slice_get_read}
 use Rattle.script_lines.specs.Keywords.{common_length, HasNoKeyword}
 use Rattle.script_lines.proofs.CommonLemmas.{whole_front, common_length-short}
 use Rattle.script_lines.proofs.KeywordLemmas.{passed_none, passed_more}
@@ -7,7 +8,13 @@ use Rattle.script_lines.proofs.keywords.keyword_of.Goals.{then-common-reach, els
 use Rattle.script_lines.proofs.keywords.keyword_of.Goals as goal
 
 pub returns-then-common-bytes : goal.returns-then-common-bytes
-returns-then-common-bytes g c = whole_front _ c.args.text.now (ap (λ (w : List ℕ). common_length w c.args.text.now) (sym c.bytes-bytes.ensures) ∙ sym c.common_len-common.ensures ∙ c.if-common-bytes.true ∙ ap length c.bytes-bytes.ensures)
+returns-then-common-bytes g c = record {
+  begins = whole_front _ c.args.text.now (ap (λ (w : List ℕ). common_length w c.args.text.now) (sym c.bytes-bytes.ensures) ∙ sym c.common_len-common.ensures ∙ c.if-common-bytes.true ∙ ap length c.bytes-bytes.ensures);
+  place = c.loop-keyword.keyword-index;
+  is = slice_get_read c.args.keywords.now (length c.args.keywords.now) c.loop-keyword.keyword-index c.keyword-item.result refl c.loop-keyword-test.true c.keyword-item.is;
+  reach = c.loop-keyword.reach;
+  none_before = c.loop-keyword.invariant;
+}
 
 pub loop-keyword-init : goal.loop-keyword-init
 loop-keyword-init g c = passed_none g.K.Keyword.codes c.args.text.now
