@@ -1,5 +1,5 @@
 // Bytes that a line gives in hexadecimal digits.
-ghost use Rattle.std.specs.Prelude.{◌≡◌, ◌*◌, ◌<◌, ◌≤◌, true, Some, Ok, length, take, vec_len};
+ghost use Rattle.std.specs.Prelude.{◌≡◌, ◌*◌, ◌<◌, ◌≤◌, true, Some, Ok, length, take, drop, vec_len};
 ghost use Rattle.script_lines.specs.declared.lengths.TheConstants.{LONGEST_LINE, LONGEST_BYTES};
 ghost use Rattle.script_lines.specs.Parts.{IsPairs};
 ghost use Rattle.hex.specs.Hex.{decode_of, hex_digit_value, is_hex_digit};
@@ -12,6 +12,7 @@ pub fn decode(hex: &[u8], out: &mut [u8]) -> usize
     requires room { length hex.now ≤ 2 * length out.old }
     ensures bytes { decode_of hex.now ≡ Ok (take result out.new) }
     ensures within { result ≤ length out.new }
+    ensures rest { drop result out.new ≡ drop result out.old }
     ensures size { length out.new ≡ length out.old }
 {
     let count = hex.len() / 2;
@@ -27,6 +28,7 @@ pub fn decode_line(hex: &[u8], bytes: &mut Vec<u8>) -> usize
     requires fits { length hex.now ≤ LONGEST_LINE }
     requires room { vec_len bytes.old ≡ LONGEST_BYTES }
     ensures bytes { decode_of hex.now ≡ Ok (take result bytes.new.items) }
+    ensures rest { drop result bytes.new.items ≡ drop result bytes.old.items }
     ensures size { vec_len bytes.new ≡ LONGEST_BYTES }
     ensures within { result ≤ LONGEST_BYTES }
 {
