@@ -2,12 +2,12 @@
 use Rattle.std.proofs.Common.{◌≡◌, ℕ, ◌⊎◌, List, [], ◌∷◌, ◌++◌, refl, sym, subst}
 use Rattle.base_model.specs.Faults.{Rose}
 use Rattle.script_lines.specs.Columns.{BreaksAt}
-use Rattle.script_text.specs.CheckGrammar.{CheckedLine, IsCheckLine}
-use Rattle.script_text.specs.CheckText.{IsCheckText, IsCheckWritten, checked_line_of}
+use Rattle.script_text.specs.CheckGrammar.{CheckedLine, IsCheckLine, IsValidCheck, check_text_of}
+use Rattle.script_text.specs.CheckText.{IsCheckText, checked_line_of}
 use Rattle.script_text.specs.declared.check_line.CheckLine.{CheckLine}
 use Rattle.script_lines.specs.Lines.{Line, Reading, lines_of, IsNextLine}
-use Rattle.script_lines.specs.Causes.{HasSourceCause, HasSinkCause}
-use Rattle.script_lines.specs.Played.{IsLineOf, AreInGrammar}
+use Rattle.script_lines.specs.Causes.{HasCauseOf, OfSource, OfSink}
+use Rattle.script_lines.specs.Played.{IsLineOf}
 use Rattle.script_lines.specs.Streams.{stream_of}
 use Rattle.script_lines.specs.Reads.{HasRead, StandsAt, AreReadInOrder, last_line}
 use Rattle.script_lines.specs.Ends.{EndsReading, fault_of}
@@ -20,10 +20,11 @@ use Rattle.script_lines.specs.declared.ending.ScriptEnd.TheVariants.{Done, BadLi
 use Rattle.script_lines.proofs.PlayedLemmas.{IsBadFrom, is_line, is_bad, stops_at, ends_behind, ends_none as lines_end, is_done as lines_done}
 use Rattle.apei_check.proofs.TextLemmas.{writes_next, writes_part}
 use Rattle.apei_check.proofs.GrammarLemmas.{is_read}
+use Rattle.std.specs.Prelude.{All}
 
 -- a text gives a table for which memory is taken
 abbrev MayWantMemory : List ℕ → Type 0
-MayWantMemory text = (asked : CheckedLine) × IsCheckWritten text asked × TakesMemory asked
+MayWantMemory text = (asked : CheckedLine) × (IsValidCheck asked × (text ≡ check_text_of asked)) × TakesMemory asked
 
 -- the lines that were read, and what was written of them
 pub record SoFar (told_source told_sink : Type 0) (show : Show) (script rest written written_now : List ℕ) (reading : Reading) : Type 0 where
@@ -34,8 +35,8 @@ pub record SoFar (told_source told_sink : Type 0) (show : Show) (script rest wri
 module _ (told_source told_sink : Type 0) (show : Show) (script rest rest_now written middle : List ℕ) (a b : Reading) (so_far : SoFar told_source told_sink show script rest written middle a)
     (text : List ℕ) (line : CheckLine) (next : IsNextLine told_source a b rest rest_now) (same : text ≡ b.line) (is : IsCheckText text line) where
   -- the line that was read is this one
-  is_this : IsLineOf (λ written. IsCheckWritten written (is_read text line is).asked) (last_line b)
-  is_this = is_line (λ (written : List ℕ). IsCheckWritten written (is_read text line is).asked) told_source a b rest rest_now text next same (is_read text line is).written
+  is_this : IsLineOf (λ written. (IsValidCheck (is_read text line is).asked × (written ≡ check_text_of (is_read text line is).asked))) (last_line b)
+  is_this = is_line (λ (written : List ℕ). (IsValidCheck (is_read text line is).asked × (written ≡ check_text_of (is_read text line is).asked))) told_source a b rest rest_now text next same (is_read text line is).written
 
   -- one more line was shown
   pub so_far_next : (now : List ℕ) → HasRead told_source script rest_now (so_far.lines ++ last_line b ∷ []) b → Shows told_sink (AreShownBy show (checked_line_of line)) middle now
@@ -104,7 +105,7 @@ ends_bad told_source told_sink show script rest rest_now written now text a b nu
 
 -- where all lines are in the grammar and no fault was counted, all are read
 pub is_done : (told_source told_sink : Type 0) (show : Show) (script rest written now : List ℕ) (source source_now sink sink_now : ℕ) (ending : ScriptEnd)
-    → ChecksScript (stream_of told_source script rest) (stream_of told_sink written now) show ending → HasSourceCause source source_now (fault_of ending) → HasSinkCause sink sink_now (fault_of ending)
-    → told_source → AreInGrammar IsCheckLine (lines_of 0 script) → (Rose source source_now → ⊥) → (Rose sink sink_now → ⊥) → (ending ≡ Done) ⊎ (ending ≡ Memory)
+    → ChecksScript (stream_of told_source script rest) (stream_of told_sink written now) show ending → HasCauseOf OfSource source source_now (fault_of ending) → HasCauseOf OfSink sink sink_now (fault_of ending)
+    → told_source → All (IsLineOf IsCheckLine) (lines_of 0 script) → (Rose source source_now → ⊥) → (Rose sink sink_now → ⊥) → (ending ≡ Done) ⊎ (ending ≡ Memory)
 is_done told_source told_sink show script rest written now source source_now sink sink_now ending checks in_cause out_cause told all no_source no_sink =
     lines_done IsCheckLine MayWantMemory script rest checks.lines source source_now sink sink_now ending (checks.ends told) in_cause out_cause all no_source no_sink

@@ -5,8 +5,7 @@ use Rattle.apei_check.specs.Shown.{Shows, ShowsPart, lines_text}
 use Rattle.apei_check.specs.declared.text.show.Show.{Show}
 use Rattle.script_lines.specs.Lines.{Line}
 use Rattle.script_lines.specs.Played.{IsLineOf}
-use Rattle.script_text.specs.CheckGrammar.{CheckedLine}
-use Rattle.script_text.specs.CheckText.{IsCheckWritten}
+use Rattle.script_text.specs.CheckGrammar.{CheckedLine, IsValidCheck, check_text_of}
 use Rattle.apei_check.specs.Texts.{AreShownBy, IsTextOf, IsTextOfAll}
 use Rattle.script_lines.specs.declared.ending.ScriptEnd.TheVariants.{Done, SinkFault}
 use Rattle.apei_check.specs.Checks.{WritesByEnd}
@@ -26,7 +25,7 @@ pub writes_none : (told : Type 0) (show : Show) (written : List ℕ) → WritesB
 writes_none told show written = ([], refl, λ t. sym (append-nil written))
 
 pub writes_next : (told : Type 0) (show : Show) (lines : List Line) (line : Line) (asked : CheckedLine) (written middle now : List ℕ) → WritesByEnd told show lines written middle Done
-    → IsLineOf (λ written. IsCheckWritten written asked) line → Shows told (AreShownBy show asked) middle now → WritesByEnd told show (lines ++ line ∷ []) written now Done
+    → IsLineOf (λ written. (IsValidCheck asked × (written ≡ check_text_of asked))) line → Shows told (AreShownBy show asked) middle now → WritesByEnd told show (lines ++ line ∷ []) written now Done
 writes_next told show lines line asked written middle now before is shows = (
   before.0 ++ lines_text shows.lines,
   push show lines line before.0 (lines_text shows.lines) before.1 (record { asked = asked; is = is; shown = shows.lines; are = shows.are; text_is = refl }),
@@ -35,7 +34,7 @@ writes_next told show lines line asked written middle now before is shows = (
 
 -- one more in part
 pub writes_part : (told : Type 0) (show : Show) (lines : List Line) (line : Line) (asked : CheckedLine) (written middle now : List ℕ) → WritesByEnd told show lines written middle Done
-    → IsLineOf (λ written. IsCheckWritten written asked) line → ShowsPart told (AreShownBy show asked) middle now → WritesByEnd told show (lines ++ line ∷ []) written now SinkFault
+    → IsLineOf (λ written. (IsValidCheck asked × (written ≡ check_text_of asked))) line → ShowsPart told (AreShownBy show asked) middle now → WritesByEnd told show (lines ++ line ∷ []) written now SinkFault
 writes_part told show lines line asked written middle now before is shows = (
   lines,
   line,

@@ -1,7 +1,6 @@
 -- What a check of a script leaves, by its end.
 use Rattle.std.specs.Prelude.{◌≡◌, ℕ, List, [], ◌∷◌, ◌++◌, take}
-use Rattle.script_text.specs.CheckGrammar.{CheckedLine, IsCheckLine}
-use Rattle.script_text.specs.CheckText.{IsCheckWritten}
+use Rattle.script_text.specs.CheckGrammar.{CheckedLine, IsCheckLine, IsValidCheck, check_text_of}
 use Rattle.script_lines.specs.Lines.{Line}
 use Rattle.script_lines.specs.Played.{EndsBehind}
 use Rattle.script_lines.specs.Streams.{Stream}
@@ -22,6 +21,6 @@ WritesByEnd told show lines written written_now ending = (text : List ℕ) × Is
 -- table alone
 pub record ChecksScript (source sink : Stream) (show : Show) (ending : ScriptEnd) : Type 0 where
   pub lines : List Line
-  pub ends : source.tells → EndsBehind IsCheckLine (λ text. (asked : CheckedLine) × IsCheckWritten text asked × TakesMemory asked)
+  pub ends : source.tells → EndsBehind IsCheckLine (λ text. (asked : CheckedLine) × (IsValidCheck asked × (text ≡ check_text_of asked)) × TakesMemory asked)
       source.before source.after lines ending
   pub writes : WritesByEnd sink.tells show lines sink.before sink.after ending

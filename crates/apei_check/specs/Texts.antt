@@ -5,8 +5,7 @@ use Rattle.erst_entries.specs.Tables.{refusal as erst_refusal}
 use Rattle.hest_sources.specs.Tables.{refusal as hest_refusal}
 use Rattle.script_lines.specs.Lines.{Line}
 use Rattle.script_lines.specs.Played.{IsLineOf}
-use Rattle.script_text.specs.CheckGrammar.{CheckedLine, blank, comment, erst, hest, bert, one_record, block}
-use Rattle.script_text.specs.CheckText.{IsCheckWritten}
+use Rattle.script_text.specs.CheckGrammar.{CheckedLine, blank, comment, erst, hest, bert, one_record, block, IsValidCheck, check_text_of}
 use Rattle.apei_check.specs.Shown.{lines_text}
 use Rattle.apei_check.specs.declared.text.show.Show.{Show}
 use Rattle.apei_check.specs.Tables.{AreErstLines, AreHestLines, AreBertLines}
@@ -37,7 +36,7 @@ TakesMemory line = ⊥
 -- this is the text of what a line of a script shows
 pub record IsTextOf (show : Show) (line : Line) (text : List ℕ) : Type 0 where
   pub asked : CheckedLine
-  pub is : IsLineOf (λ written. IsCheckWritten written asked) line
+  pub is : IsLineOf (λ written. IsValidCheck asked × (written ≡ check_text_of asked)) line
   pub shown : List (List ℕ)
   pub are : AreShownBy show asked shown
   pub text_is : text ≡ lines_text shown
