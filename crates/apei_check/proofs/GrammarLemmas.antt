@@ -1,16 +1,17 @@
 -- Laws of lines that are in the grammar.
 use Rattle.std.proofs.Common.{ℕ, ◌≤◌, inl, inr, List, length, ap, arith}
 use Rattle.script_text.specs.CheckGrammar.{CheckedLine, IsValidCheck, check_text_of, blank, comment, erst, hest, bert, one_record, block}
-use Rattle.script_text.specs.CheckText.{IsCheckText, IsCheckWritten, checked_line_of}
+use Rattle.script_text.specs.CheckText.{IsCheckText, checked_line_of}
 use Rattle.script_text.specs.declared.check_line.CheckLine.{CheckLine}
 use Rattle.script_text.specs.declared.check_line.CheckLine.TheVariants.{Blank, Erst, Hest, Bert, Record, Block}
 use Rattle.apei_check.specs.declared.text.show.Show.{Show}
 use Rattle.apei_check.specs.Texts.{AreShownBy, TakesMemory}
+use Rattle.std.specs.Prelude.{◌≡◌}
 
 -- what a text that was parsed is: the line itself, or a comment, which shows what a blank line shows
 pub record IsRead (text : List ℕ) (line : CheckLine) : Type 0 where
   pub asked : CheckedLine
-  pub written : IsCheckWritten text asked
+  pub written : (IsValidCheck asked × (text ≡ check_text_of asked))
   pub valid : IsValidCheck (checked_line_of line)
   pub fits : length (check_text_of (checked_line_of line)) ≤ length text
   pub same : (show : Show) (shown : List (List ℕ)) → AreShownBy show (checked_line_of line) shown → AreShownBy show asked shown

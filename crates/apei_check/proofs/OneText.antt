@@ -1,13 +1,14 @@
--- What lines of a script show is one text.
-use Rattle.std.proofs.Common.{◌≡◌, ℕ, List, [], ◌∷◌, ◌++◌, Result, Ok, sym, ap, subst, ◌∙◌}
+-- What lines of a script show is one list of lines each.
+use Rattle.std.proofs.Common.{◌≡◌, ℕ, List, [], ◌∷◌, Result, Ok, refl, sym, ap, subst, ◌∙◌}
+use Rattle.std.specs.List.{AllZip}
 use Rattle.hex.specs.declared.error.FromHexError.{FromHexError}
 use Rattle.script_lines.specs.Lines.{Line}
 use Rattle.script_text.specs.CheckGrammar.{CheckedLine, IsValidCheck, check_text_of, blank, comment, erst, hest, bert, one_record, block}
-use Rattle.apei_check.specs.Shown.{lines_text}
+use Rattle.script_lines.specs.Played.{IsLineOf}
 use Rattle.apei_check.specs.declared.text.show.Show.{Show}
 use Rattle.apei_check.specs.Tables.{AreErstLines, AreHestLines, AreBertLines}
 use Rattle.apei_check.specs.Frames.{AreRecordLines, AreBlockLines}
-use Rattle.apei_check.specs.Texts.{Stands, AreShownBy, IsTextOf, IsTextOfAll}
+use Rattle.apei_check.specs.Texts.{Stands, AreShownBy, TextShows}
 use Rattle.apei_check.proofs.OneItem.{one_erst, one_hest, one_bert, one_framed_record, one_status_block}
 
 -- bytes have one list of lines
@@ -33,16 +34,17 @@ module _ (one_line : (a b : CheckedLine) → IsValidCheck a → IsValidCheck b �
   one_list show (one_record hex) lines others a b = one_shown AreRecordLines one_framed_record show hex lines others a b
   one_list show (block hex) lines others a b = one_shown AreBlockLines one_status_block show hex lines others a b
 
-  one_text : (show : Show) (line : Line) (text other : List ℕ) → IsTextOf show line text → IsTextOf show line other → text ≡ other
-  one_text show line text other a b =
-      let same : b.asked ≡ a.asked = one_line b.asked a.asked b.is.is.0 a.is.is.0 (sym b.is.is.1 ∙ a.is.is.1) in
-      let shown : a.shown ≡ b.shown = one_list show a.asked a.shown b.shown a.are (subst (λ (asked : CheckedLine). AreShownBy show asked b.shown) same b.are) in
-      a.text_is ∙ ap lines_text shown ∙ sym b.text_is
+  one_of_line : (show : Show) (line : Line) (shown other : List (List ℕ)) → IsLineOf (λ text. TextShows show text shown) line → IsLineOf (λ text. TextShows show text other) line → shown ≡ other
+  one_of_line show line shown other a b =
+      let same : b.is.0 ≡ a.is.0 = one_line b.is.0 a.is.0 b.is.1.0 a.is.1.0 (sym b.is.1.1 ∙ a.is.1.1) in
+      one_list show a.is.0 shown other a.is.2 (subst (λ (asked : CheckedLine). AreShownBy show asked other) same b.is.2)
 
-  pub one_text_of_all : (show : Show) (lines : List Line) (text other : List ℕ) → IsTextOfAll show lines text → IsTextOfAll show lines other → text ≡ other
-  one_text_of_all show [] text other a b = a ∙ sym b
-  one_text_of_all show (line ∷ lines) text other a b =
-      a.4
-      ∙ ap (λ (bs : List ℕ). bs ++ a.1) (one_text show line a.0 b.0 a.2 b.2)
-      ∙ ap (λ (bs : List ℕ). b.0 ++ bs) (one_text_of_all show lines a.1 b.1 a.3 b.3)
-      ∙ sym b.4
+  pub one_of_lines : (show : Show) (lines : List Line) (shown others : List (List (List ℕ))) → AllZip (λ line one. IsLineOf (λ text. TextShows show text one) line) lines shown
+      → AllZip (λ line one. IsLineOf (λ text. TextShows show text one) line) lines others → shown ≡ others
+  one_of_lines show [] [] [] a b = refl
+  one_of_lines show [] [] (other ∷ others) a b = absurd b
+  one_of_lines show [] (first ∷ shown) others a b = absurd a
+  one_of_lines show (line ∷ lines) [] others a b = absurd a
+  one_of_lines show (line ∷ lines) (first ∷ shown) [] a b = absurd b
+  one_of_lines show (line ∷ lines) (first ∷ shown) (other ∷ others) a b =
+      ap (λ (l : List (List ℕ)). l ∷ shown) (one_of_line show line first other a.0 b.0) ∙ ap (λ (ls : List (List (List ℕ))). other ∷ ls) (one_of_lines show lines shown others a.1 b.1)

@@ -1,11 +1,12 @@
 -- Lines that are written one after another.
 use Rattle.std.proofs.Common.{◌≡◌, ℕ, ◌+◌, ◌-◌, ◌<◌, List, [], ◌∷◌, ◌++◌, length, take, drop, get_or, min, refl, sym, ap, subst, ◌∙◌, arith, append_assoc, length-append, Bool, true, false}
-use Rattle.std.specs.Prelude.{if◌then◌else◌}
+use Rattle.std.specs.Prelude.{if◌then◌else◌, ◌==◌}
 use Rattle.std.proofs.lemmas.List.{take-append-drop, take-append-le, take_more, take_min, length-take, append-nil}
 use Rattle.std.proofs.Math.Seq.{take-append-add}
-use Rattle.apei_check.specs.Shown.{lines_text, lines_shown, shows_parts}
+use Rattle.apei_check.specs.Shown.{lines_text, lines_shown}
 use Rattle.apei_check.specs.declared.text.show.Show.{Show}
-use Rattle.apei_check.specs.Written.{Writes, WritesPart, head_shown}
+use Rattle.apei_check.specs.Written.{Writes, WritesPart}
+use Rattle.std.specs.Int.RustNames.{bit_and}
 
 pub lines_text_none : lines_text [] ≡ []
 unfolding lines_text
@@ -84,38 +85,38 @@ wrote_unasked told lines a asked is same off = subst (λ (b : Bool). Writes told
 
 -- the line on the whole, and then those on the parts
 pub wrote_shown : (told : Type 0) (show : Show) (line head : List ℕ) (parts : List (List ℕ)) (a b c : List ℕ) → line ≡ head
-    → Writes told (head_shown show line) a b → Writes told (if shows_parts show then parts else []) b c → Writes told (lines_shown show head parts) a c
+    → Writes told (if (bit_and show.0 1 == 1) then line ∷ [] else []) a b → Writes told (if (bit_and show.0 2 == 2) then parts else []) b c → Writes told (lines_shown show head parts) a c
 wrote_shown told show line head parts a b c is first second =
-    wrote_more told (head_shown show head) (if shows_parts show then parts else []) a b c (subst (λ (x : List ℕ). Writes told (head_shown show x) a b) is first) second
+    wrote_more told (if (bit_and show.0 1 == 1) then head ∷ [] else []) (if (bit_and show.0 2 == 2) then parts else []) a b c (subst (λ (x : List ℕ). Writes told (if (bit_and show.0 1 == 1) then x ∷ [] else []) a b) is first) second
 
 -- the line on the whole, and then a beginning of those on the parts
 pub wrote_parts_broken : (told : Type 0) (show : Show) (line head : List ℕ) (parts : List (List ℕ)) (a b c : List ℕ) → line ≡ head
-    → Writes told (head_shown show line) a b → WritesPart told (if shows_parts show then parts else []) b c → WritesPart told (lines_shown show head parts) a c
+    → Writes told (if (bit_and show.0 1 == 1) then line ∷ [] else []) a b → WritesPart told (if (bit_and show.0 2 == 2) then parts else []) b c → WritesPart told (lines_shown show head parts) a c
 wrote_parts_broken told show line head parts a b c is first second =
-    wrote_and_part told (head_shown show head) (if shows_parts show then parts else []) a b c (subst (λ (x : List ℕ). Writes told (head_shown show x) a b) is first) second
+    wrote_and_part told (if (bit_and show.0 1 == 1) then head ∷ [] else []) (if (bit_and show.0 2 == 2) then parts else []) a b c (subst (λ (x : List ℕ). Writes told (if (bit_and show.0 1 == 1) then x ∷ [] else []) a b) is first) second
 
 -- a beginning of the line on the whole
 pub wrote_head_broken : (told : Type 0) (show : Show) (line head : List ℕ) (parts : List (List ℕ)) (a b : List ℕ) → line ≡ head
-    → WritesPart told (head_shown show line) a b → WritesPart told (lines_shown show head parts) a b
+    → WritesPart told (if (bit_and show.0 1 == 1) then line ∷ [] else []) a b → WritesPart told (lines_shown show head parts) a b
 wrote_head_broken told show line head parts a b is first =
-    wrote_part_of_more told (head_shown show head) (if shows_parts show then parts else []) a b (subst (λ (x : List ℕ). WritesPart told (head_shown show x) a b) is first)
+    wrote_part_of_more told (if (bit_and show.0 1 == 1) then head ∷ [] else []) (if (bit_and show.0 2 == 2) then parts else []) a b (subst (λ (x : List ℕ). WritesPart told (if (bit_and show.0 1 == 1) then x ∷ [] else []) a b) is first)
 
 -- the same where those on the parts are asked for
-pub wrote_item : (told : Type 0) (show : Show) (line : List ℕ) (parts : List (List ℕ)) (a b c : List ℕ) (asked : Bool) → asked ≡ shows_parts show → asked ≡ true
-    → Writes told (head_shown show line) a b → Writes told parts b c → Writes told (lines_shown show line parts) a c
+pub wrote_item : (told : Type 0) (show : Show) (line : List ℕ) (parts : List (List ℕ)) (a b c : List ℕ) (asked : Bool) → asked ≡ (bit_and show.0 2 == 2) → asked ≡ true
+    → Writes told (if (bit_and show.0 1 == 1) then line ∷ [] else []) a b → Writes told parts b c → Writes told (lines_shown show line parts) a c
 wrote_item told show line parts a b c asked is on first second =
     wrote_shown told show line line parts a b c refl first (subst (λ (x : Bool). Writes told (if x then parts else []) b c) (sym on ∙ is) second)
 
-pub wrote_item_part : (told : Type 0) (show : Show) (line : List ℕ) (parts : List (List ℕ)) (a b c : List ℕ) (asked : Bool) → asked ≡ shows_parts show → asked ≡ true
-    → Writes told (head_shown show line) a b → WritesPart told parts b c → WritesPart told (lines_shown show line parts) a c
+pub wrote_item_part : (told : Type 0) (show : Show) (line : List ℕ) (parts : List (List ℕ)) (a b c : List ℕ) (asked : Bool) → asked ≡ (bit_and show.0 2 == 2) → asked ≡ true
+    → Writes told (if (bit_and show.0 1 == 1) then line ∷ [] else []) a b → WritesPart told parts b c → WritesPart told (lines_shown show line parts) a c
 wrote_item_part told show line parts a b c asked is on first second =
     wrote_parts_broken told show line line parts a b c refl first (subst (λ (x : Bool). WritesPart told (if x then parts else []) b c) (sym on ∙ is) second)
 
 -- the line on an item without parts
 pub wrote_head_alone : (told : Type 0) (show : Show) (line head : List ℕ) (a b : List ℕ) → line ≡ head
-    → Writes told (head_shown show line) a b → Writes told (lines_shown show head []) a b
+    → Writes told (if (bit_and show.0 1 == 1) then line ∷ [] else []) a b → Writes told (lines_shown show head []) a b
 wrote_head_alone told show line head a b is first =
-    wrote_shown told show line head [] a b b is first (none (shows_parts show))
+    wrote_shown told show line head [] a b b is first (none (bit_and show.0 2 == 2))
   where
     none : (shown : Bool) → Writes told (if shown then [] else []) b b
     none true = wrote_nothing told b

@@ -1,5 +1,5 @@
 -- Which lines of an item are shown.
-use Rattle.std.specs.Prelude.{◌≡◌, ℕ, Bool, ◌==◌, List, [], ◌∷◌, ◌++◌, take, map, codes, if◌then◌else◌, Result, Ok, Err}
+use Rattle.std.specs.Prelude.{◌≡◌, ℕ, ◌==◌, List, [], ◌∷◌, ◌++◌, take, map, if◌then◌else◌, Result, Ok, Err}
 use Rattle.std.specs.List.{enumerate_from}
 use Rattle.base_model.specs.Faults.{Rose}
 use Rattle.std.specs.Int.RustNames.{bit_and}
@@ -7,19 +7,9 @@ use Rattle.apei_check.specs.declared.text.show.Show.{Show}
 use Rattle.apei_check.specs.declared.text.stop.CheckStop.{CheckStop}
 use Rattle.apei_check.specs.declared.text.stop.CheckStop.TheVariants.{SinkFault, Memory}
 
--- the flags by name
-abbrev pub shown_flags : List (List ℕ × ℕ)
-shown_flags = (codes "HEAD", 1) ∷ (codes "PARTS", 2) ∷ []
-
-abbrev pub shows_head : Show → Bool
-shows_head show = bit_and show.0 1 == 1
-
-abbrev pub shows_parts : Show → Bool
-shows_parts show = bit_and show.0 2 == 2
-
--- the lines of an item: the one on the whole, and those on its parts
+-- the lines of an item: the one on the whole where bit 0 is set (`HEAD`), and those on its parts where bit 1 is (`PARTS`)
 abbrev pub lines_shown : Show → List ℕ → List (List ℕ) → List (List ℕ)
-lines_shown show head parts = (if shows_head show then head ∷ [] else []) ++ (if shows_parts show then parts else [])
+lines_shown show head parts = (if bit_and show.0 1 == 1 then head ∷ [] else []) ++ (if bit_and show.0 2 == 2 then parts else [])
 
 -- a line for each part, which are counted from 0
 abbrev pub numbered_lines : {X : Type 0} → (ℕ → X → List ℕ) → List X → List (List ℕ)

@@ -4,11 +4,6 @@ use Rattle.erst_entries.specs.declared.entries.Entry.{Entry}
 use Rattle.hest_sources.specs.declared.sources.HestSource.{HestSource}
 use Rattle.hest_sources.specs.declared.sources.HestSource.TheVariants.{Ghes as Generic, Other}
 use Rattle.hest_sources.specs.Layout.{type_of}
-use Rattle.ghes_block.specs.declared.table.Bert.{Bert}
-
--- an Error Record Serialization Table of so many bytes and entries, and the bytes behind it
-abbrev pub erst_line : ℕ → ℕ → ℕ → List ℕ
-erst_line len entries rest = codes "erst " ++ decimal len ++ codes " entries " ++ decimal entries ++ codes " rest " ++ decimal rest
 
 abbrev pub entry_line : ℕ → Entry → List ℕ
 entry_line index entry =
@@ -24,10 +19,6 @@ entry_line index entry =
     ++ codes " value " ++ decimal entry.value
     ++ codes " mask " ++ decimal entry.mask
 
--- a Hardware Error Source Table of so many bytes and sources, and the bytes behind it
-abbrev pub hest_line : ℕ → ℕ → ℕ → List ℕ
-hest_line len sources rest = codes "hest " ++ decimal len ++ codes " sources " ++ decimal sources ++ codes " rest " ++ decimal rest
-
 -- of a generic source more is shown than its type
 abbrev pub source_line : ℕ → HestSource → List ℕ
 source_line index (Generic source) =
@@ -37,8 +28,3 @@ source_line index (Generic source) =
     ++ codes " enabled " ++ decimal source.enabled
     ++ codes " block " ++ decimal source.block_len
 source_line index (Other kind at len) = codes "source " ++ decimal index ++ codes " kind " ++ decimal kind
-
--- a Boot Error Record Table of so many bytes, the region that it names, and the bytes behind it
-abbrev pub bert_line : ℕ → Bert → ℕ → List ℕ
-bert_line len bert rest =
-    codes "bert " ++ decimal len ++ codes " region " ++ decimal bert.region ++ codes " bytes " ++ decimal bert.len ++ codes " rest " ++ decimal rest

@@ -1,13 +1,9 @@
 -- What the lines of a script show.
-use Rattle.std.specs.Prelude.{◌≡◌, ℕ, List, [], ◌∷◌, ◌++◌, None, Ok}
+use Rattle.std.specs.Prelude.{◌≡◌, ℕ, List, [], None, Ok}
 use Rattle.hex.specs.Hex.{decode_of}
 use Rattle.erst_entries.specs.Tables.{refusal as erst_refusal}
 use Rattle.hest_sources.specs.Tables.{refusal as hest_refusal}
-use Rattle.script_lines.specs.Lines.{Line}
-use Rattle.script_lines.specs.Played.{IsLineOf}
-use Rattle.script_text.specs.CheckGrammar.{CheckedLine, blank, comment, erst, hest, bert, one_record, block}
-use Rattle.script_text.specs.CheckText.{IsCheckWritten}
-use Rattle.apei_check.specs.Shown.{lines_text}
+use Rattle.script_text.specs.CheckGrammar.{CheckedLine, blank, comment, erst, hest, bert, one_record, block, IsValidCheck, check_text_of}
 use Rattle.apei_check.specs.declared.text.show.Show.{Show}
 use Rattle.apei_check.specs.Tables.{AreErstLines, AreHestLines, AreBertLines}
 use Rattle.apei_check.specs.Frames.{AreRecordLines, AreBlockLines}
@@ -34,15 +30,6 @@ TakesMemory (erst hex) = Stands (λ bytes. erst_refusal bytes ≡ None) hex
 TakesMemory (hest hex) = Stands (λ bytes. hest_refusal bytes ≡ None) hex
 TakesMemory line = ⊥
 
--- this is the text of what a line of a script shows
-pub record IsTextOf (show : Show) (line : Line) (text : List ℕ) : Type 0 where
-  pub asked : CheckedLine
-  pub is : IsLineOf (λ written. IsCheckWritten written asked) line
-  pub shown : List (List ℕ)
-  pub are : AreShownBy show asked shown
-  pub text_is : text ≡ lines_text shown
-
--- the text of what some lines show, one after another
-abbrev pub IsTextOfAll : Show → List Line → List ℕ → Type 0
-IsTextOfAll show [] text = text ≡ []
-IsTextOfAll show (line ∷ lines) text = (first : List ℕ) × (rest : List ℕ) × IsTextOf show line first × IsTextOfAll show lines rest × (text ≡ first ++ rest)
+-- the lines that a text of a script shows
+abbrev pub TextShows : Show → List ℕ → List (List ℕ) → Type 0
+TextShows show text shown = (asked : CheckedLine) × (IsValidCheck asked × (text ≡ check_text_of asked)) × AreShownBy show asked shown

@@ -1,7 +1,6 @@
 -- That lines were written, to a sink of which `told` says whether it tells what was written.
-use Rattle.std.specs.Prelude.{◌≡◌, ℕ, List, [], ◌∷◌, ◌++◌, take, if◌then◌else◌}
-use Rattle.apei_check.specs.Shown.{lines_text, shows_head}
-use Rattle.apei_check.specs.declared.text.show.Show.{Show}
+use Rattle.std.specs.Prelude.{◌≡◌, ℕ, List, ◌++◌, take}
+use Rattle.apei_check.specs.Shown.{lines_text}
 
 -- these lines were written, each with its newline
 abbrev pub Writes : Type 0 → List (List ℕ) → List ℕ → List ℕ → Type 0
@@ -11,7 +10,3 @@ Writes told lines written written_now = told → written_now ≡ written ++ line
 pub record WritesPart (told : Type 0) (lines : List (List ℕ)) (written written_now : List ℕ) : Type 0 where
   pub count : ℕ
   pub text : told → written_now ≡ written ++ take count (lines_text lines)
-
--- the line on the whole, where it is asked for
-abbrev pub head_shown : Show → List ℕ → List (List ℕ)
-head_shown show head = if shows_head show then head ∷ [] else []

@@ -1,10 +1,10 @@
 // A script, checked line by line.
-ghost use Rattle.std.specs.Prelude.{◌≡◌, ◌⊎◌, [], false, length};
+ghost use Rattle.std.specs.Prelude.{◌≡◌, ◌⊎◌, [], false, length, All};
+ghost use Rattle.script_lines.specs.Played.{IsLineOf};
 ghost use Rattle.base_model.specs.Faults.{Rose};
-ghost use Rattle.script_lines.specs.Causes.{HasSourceCause, HasSinkCause};
+ghost use Rattle.script_lines.specs.Causes.{HasCauseOf, OfSource, OfSink};
 ghost use Rattle.script_lines.specs.Ends.{fault_of};
 ghost use Rattle.script_lines.specs.Lines.{lines_of};
-ghost use Rattle.script_lines.specs.Played.{AreInGrammar};
 ghost use Rattle.script_lines.specs.Reads.{first_reading};
 ghost use Rattle.script_lines.specs.Streams.{stream_of};
 ghost use Rattle.script_text.specs.CheckGrammar.{IsCheckLine};
@@ -28,8 +28,8 @@ fn check_lines<I: Source, O: Sink>(
 ) -> ScriptEnd
     requires start { lines.old ≡ first_reading }
     requires room { length buffer.old ≡ LONGEST_BYTES }
-    ensures source { HasSourceCause (I.faults script.old) (I.faults script.new) (fault_of result) }
-    ensures sink { HasSinkCause (O.faults out.old) (O.faults out.new) (fault_of result) }
+    ensures source { HasCauseOf OfSource (I.faults script.old) (I.faults script.new) (fault_of result) }
+    ensures sink { HasCauseOf OfSink (O.faults out.old) (O.faults out.new) (fault_of result) }
     ensures checked { ChecksScript (stream_of I.tells (I.rest script.old) (I.rest script.new))
         (stream_of O.tells (O.written out.old) (O.written out.new)) show result }
 {
@@ -70,10 +70,10 @@ pub fn check_script<I: Source, O: Sink>(
     ensures checked { ((result ≡ ScriptEnd.Memory) × (script.new ≡ script.old) × (out.new ≡ out.old))
         ⊎ ChecksScript (stream_of I.tells (I.rest script.old) (I.rest script.new))
         (stream_of O.tells (O.written out.old) (O.written out.new)) show result }
-    ensures source { HasSourceCause (I.faults script.old) (I.faults script.new) (fault_of result) }
-    ensures sink { HasSinkCause (O.faults out.old) (O.faults out.new) (fault_of result) }
+    ensures source { HasCauseOf OfSource (I.faults script.old) (I.faults script.new) (fault_of result) }
+    ensures sink { HasCauseOf OfSink (O.faults out.old) (O.faults out.new) (fault_of result) }
     // A script whose lines are all in the grammar and within the lengths is read to its end, want of memory aside.
-    ensures done { I.tells → AreInGrammar IsCheckLine (lines_of 0 (I.rest script.old))
+    ensures done { I.tells → All (IsLineOf IsCheckLine) (lines_of 0 (I.rest script.old))
         → (Rose (I.faults script.old) (I.faults script.new) → ⊥) → (Rose (O.faults out.old) (O.faults out.new) → ⊥)
         → (result ≡ ScriptEnd.Done) ⊎ (result ≡ ScriptEnd.Memory) }
 {

@@ -1,10 +1,12 @@
 // Laws on what is shown: the functions do nothing, and their clauses are the laws.
 ghost use Rattle.std.specs.Prelude.{◌≡◌, ℕ, List};
+ghost use Rattle.std.specs.List.{AllZip};
 ghost use Rattle.script_lines.specs.Lines.{Line};
+ghost use Rattle.script_lines.specs.Played.{IsLineOf};
 ghost use Rattle.apei_check.specs.declared.text.show.Show.{Show};
 ghost use Rattle.apei_check.specs.Tables.{AreErstLines, AreHestLines, AreBertLines};
 ghost use Rattle.apei_check.specs.Frames.{AreRecordLines, AreBlockLines};
-ghost use Rattle.apei_check.specs.Texts.{IsTextOfAll};
+ghost use Rattle.apei_check.specs.Texts.{TextShows};
 
 use script_text::one_check_line;
 
@@ -38,10 +40,11 @@ pub fn block_lines_are_one_list()
         → AreBlockLines show bytes others → lines ≡ others }
 {}
 
-/// What lines of a script show is one text.
+/// What lines of a script show is one list of lines each, and so one text.
 pub fn lines_have_one_text()
-    ensures { (show : Show) (lines : List Line) (text other : List ℕ) → IsTextOfAll show lines text
-        → IsTextOfAll show lines other → text ≡ other }
+    ensures { (show : Show) (lines : List Line) (shown others : List (List (List ℕ)))
+        → AllZip (λ line one. IsLineOf (λ text. TextShows show text one) line) lines shown
+        → AllZip (λ line one. IsLineOf (λ text. TextShows show text one) line) lines others → shown ≡ others }
 {
     one_check_line();
 }

@@ -2,7 +2,7 @@
 use Rattle.std.proofs.Common.{◌≡◌, ℕ, List, refl, sym, ap, subst, ◌∙◌}
 use Rattle.erst_machine.specs.MachineState.{MachineState}
 use Rattle.script_text.specs.ScriptGrammar.{IsLine}
-use Rattle.script_lines.specs.Causes.{HasSourceCause, HasSinkCause}
+use Rattle.script_lines.specs.Causes.{HasCauseOf, OfSource, OfSink}
 use Rattle.script_lines.specs.Ends.{fault_of as end_fault}
 use Rattle.script_lines.specs.Lines.{Line}
 use Rattle.script_lines.specs.Played.{EndsBehind}
@@ -37,8 +37,8 @@ module _ (end : ScriptEnd) (status : Status) (is : status ≡ status_of end) whe
   same_fault : end_fault end ≡ fault_of status
   same_fault = (has_status (Unit {0}) end).fault ∙ ap fault_of (sym is)
 
-  pub source_cause : (before after : ℕ) → HasSourceCause before after (end_fault end) → HasSourceCause before after (fault_of status)
-  source_cause before after cause = subst (HasSourceCause before after) same_fault cause
+  pub source_cause : (before after : ℕ) → HasCauseOf OfSource before after (end_fault end) → HasCauseOf OfSource before after (fault_of status)
+  source_cause before after cause = subst (HasCauseOf OfSource before after) same_fault cause
 
-  pub sink_cause : (before after : ℕ) → HasSinkCause before after (end_fault end) → HasSinkCause before after (fault_of status)
-  sink_cause before after cause = subst (HasSinkCause before after) same_fault cause
+  pub sink_cause : (before after : ℕ) → HasCauseOf OfSink before after (end_fault end) → HasCauseOf OfSink before after (fault_of status)
+  sink_cause before after cause = subst (HasCauseOf OfSink before after) same_fault cause

@@ -1,6 +1,6 @@
 -- Words have one plan, but for the place where the image's path lies.
 use Rattle.std.proofs.Common.{◌≡◌, ◌∙◌, ℕ, List, Option, Some, None, refl, sym, ap}
-use Rattle.std.specs.Prelude.{String, string_bytes, option_map}
+use Rattle.std.specs.Prelude.{String, string_bytes, option_map, map}
 use Rattle.std.specs.declared.alloc.Global.{Global}
 use Rattle.apei_check.specs.declared.text.show.Show.{Show}
 use Rattle.clap.specs.Words.{Text, Row, matches_of}
@@ -9,7 +9,6 @@ use Rattle.apei_cli.specs.CommandWords.{the_command}
 use Rattle.apei_cli.specs.declared.job.Job.{Job}
 use Rattle.apei_cli.specs.declared.job.Plan.{Plan}
 use Rattle.apei_cli.specs.declared.setting.Setting.TheVariants.{Image, Sector, PerSlot, Slots, Steps, Cut, Fail, FailRead, Torn, Count, Seed, Show as TheShow}
-use Rattle.clap_words.specs.Commands.{texts_of}
 use Rattle.apei_cli.specs.Plan.{IsCount, IsGiven, IsGivenOr, IsImage, IsPlanIn, IsPlanOf, IsShow, given}
 
 one_number : (text : Text) (m n : ℕ) → IsNumber text m → IsNumber text n → m ≡ n
@@ -85,9 +84,9 @@ module _ (rows : List Row) (one other : Plan) (a : IsPlanIn rows one) (b : IsPla
 
 -- all but the image is the same
 pub same_plan : (words : List (String Global)) (one other : Plan) → IsPlanOf words one → IsPlanOf words other → one ≡ record other { image = one.image }
-same_plan words one other a b = one_plan (matches_of the_command (texts_of words)) one other a.values b.values
+same_plan words one other a b = one_plan (matches_of the_command (map string_bytes words)) one other a.values b.values
 
 -- and the image's path
 pub same_path : (words : List (String Global)) (one other : Plan) → IsPlanOf words one → IsPlanOf words other → option_map string_bytes one.image ≡ option_map string_bytes other.image
 same_path words one other a b =
-    one_path one.job other.job (given Image (matches_of the_command (texts_of words))) one.image other.image a.values.image b.values.image
+    one_path one.job other.job (given Image (matches_of the_command (map string_bytes words))) one.image other.image a.values.image b.values.image

@@ -1,12 +1,10 @@
 -- The plan that a command line makes.
-use Rattle.std.specs.Prelude.{◌≡◌, ◌||◌, ℕ, ⊤, ◌^◌, ◌-◌, ◌<◌, ◌≤◌, true, false, not, List, length, Option, Some, None, is_some, option_and_then, String, string_bytes, Ok, codes, decimal}
+use Rattle.std.specs.Prelude.{◌≡◌, ◌||◌, ℕ, ⊤, ◌^◌, ◌-◌, ◌<◌, ◌≤◌, true, false, not, List, length, Option, Some, None, is_some, option_and_then, String, string_bytes, Ok, codes, decimal, map, ◌∷◌, []}
 use Rattle.std.specs.List.{AllPass}
 use Rattle.std.specs.declared.alloc.Global.{Global}
 use Rattle.bitflags.specs.Text.{name_piece, read_text}
-use Rattle.apei_check.specs.Shown.{shown_flags}
 use Rattle.apei_check.specs.declared.text.show.Show.{Show}
 use Rattle.clap.specs.Words.{Row, Text, first_of, matches_of, takes}
-use Rattle.clap_words.specs.Commands.{texts_of}
 use Rattle.apei_cli.specs.CommandWords.{belongs, is, job_of, name_of, settings, the_command}
 use Rattle.apei_cli.specs.declared.job.Job.{Job}
 use Rattle.apei_cli.specs.declared.job.Plan.{Plan}
@@ -49,7 +47,7 @@ IsCount job (Some text) n = IsNumberUpTo 100000 text n
 -- the flags of which the text has the names, as `bitflags` reads them strictly; the heads alone where none was given
 abbrev pub IsShow : Option Text → Show → Type 0
 IsShow None show = show.0 ≡ 1
-IsShow (Some text) show = read_text (name_piece shown_flags) text ≡ Ok show.0
+IsShow (Some text) show = read_text (name_piece ((codes "HEAD", 1) ∷ (codes "PARTS", 2) ∷ [])) text ≡ Ok show.0
 
 -- the plan has the job that the positional names, and the value of each option or its default; an option that was given belongs to the job
 pub record IsPlanIn (rows : List Row) (plan : Plan) : Type 0 where
@@ -70,8 +68,8 @@ pub record IsPlanIn (rows : List Row) (plan : Plan) : Type 0 where
 
 -- clap's rule takes the words for the command, and the plan is what it then reads of them
 pub record IsPlanOf (words : List (String Global)) (plan : Plan) : Type 0 where
-  pub taken : takes the_command (texts_of words) ≡ true
-  pub values : IsPlanIn (matches_of the_command (texts_of words)) plan
+  pub taken : takes the_command (map string_bytes words) ≡ true
+  pub values : IsPlanIn (matches_of the_command (map string_bytes words)) plan
 
 -- the words are no command line of the program
 abbrev pub AreBad : List (String Global) → Type 0

@@ -1,10 +1,9 @@
 -- What a command line asks for.
-use Rattle.std.specs.Prelude.{◌≡◌, ℕ, ◌<◌, ◌≤◌, Bool, true, false, List, [], length, Option, Some, None, String, string_bytes, codes, decimal}
+use Rattle.std.specs.Prelude.{◌≡◌, ℕ, ◌<◌, ◌≤◌, Bool, true, false, List, [], length, Option, Some, None, String, string_bytes, codes, decimal, map}
 use Rattle.std.specs.Option.{option_map_or}
 use Rattle.std.specs.Str.{bytes_eq}
 use Rattle.std.specs.declared.alloc.Global.{Global}
 use Rattle.clap.specs.Words.{Row, Text, fault_of, first_of, matches_of}
-use Rattle.clap_words.specs.Commands.{texts_of}
 use Rattle.apei_look.specs.Commands.{the_command}
 use Rattle.apei_look.specs.declared.options.Options.{Options}
 use Rattle.apei_look.specs.declared.options.Show.{Show}
@@ -52,8 +51,8 @@ pub record AreOptionsIn (rows : List Row) (options : Options) : Type 0 where
 
 -- clap finds no fault in the words, and the options are what it then reads of them
 pub record AreOptionsOf (words : List (String Global)) (options : Options) : Type 0 where
-  pub taken : fault_of the_command (texts_of words) ≡ []
-  pub values : AreOptionsIn (matches_of the_command (texts_of words)) options
+  pub taken : fault_of the_command (map string_bytes words) ≡ []
+  pub values : AreOptionsIn (matches_of the_command (map string_bytes words)) options
 
 -- the words are no command line of the program
 abbrev pub AreBad : List (String Global) → Type 0

@@ -1,11 +1,10 @@
 -- What a command line asks for.
-use Rattle.std.specs.Prelude.{◌≡◌, Bool, true, false, List, [], Option, Some, None, String, codes, if◌then◌else◌}
+use Rattle.std.specs.Prelude.{◌≡◌, Bool, true, false, List, [], Option, Some, None, String, codes, if◌then◌else◌, map, string_bytes}
 use Rattle.std.specs.Option.{option_map_or}
 use Rattle.std.specs.Str.{bytes_eq}
 use Rattle.std.specs.declared.alloc.Global.{Global}
 use Rattle.std.specs.declared.vec.Vec.{Vec}
 use Rattle.clap.specs.Words.{Row, Text, all_of, fault_of, first_of, matches_of}
-use Rattle.clap_words.specs.Commands.{texts_of}
 use Rattle.apei_show.specs.Commands.{the_command}
 use Rattle.apei_show.specs.declared.options.Options.{Options}
 use Rattle.apei_show.specs.declared.options.Form.{Form}
@@ -20,7 +19,7 @@ is_set name rows = option_map_or (λ text. bytes_eq text (codes "true")) (first_
 -- the paths, of which there is at least one
 abbrev pub AreFiles : Option (List Text) → Vec (String Global) Global → Type 0
 AreFiles None files = ⊥
-AreFiles (Some paths) files = texts_of files.items ≡ paths
+AreFiles (Some paths) files = map string_bytes files.items ≡ paths
 
 -- JSON, the first lines alone, or text where neither is asked for; never both
 abbrev pub IsForm : (json brief : Bool) → Form → Type 0
@@ -51,8 +50,8 @@ pub record AreOptionsIn (rows : List Row) (options : Options) : Type 0 where
 
 -- clap finds no fault in the words, and the options are what it then reads of them
 pub record AreOptionsOf (words : List (String Global)) (options : Options) : Type 0 where
-  pub taken : fault_of the_command (texts_of words) ≡ []
-  pub values : AreOptionsIn (matches_of the_command (texts_of words)) options
+  pub taken : fault_of the_command (map string_bytes words) ≡ []
+  pub values : AreOptionsIn (matches_of the_command (map string_bytes words)) options
 
 -- the words are no command line of the program
 abbrev pub AreBad : List (String Global) → Type 0

@@ -1,6 +1,5 @@
 -- What the commands of the programs have in common.
-use Rattle.std.specs.Prelude.{◌≡◌, true, List, map, Some, String, string_bytes}
-use Rattle.std.specs.declared.alloc.Global.{Global}
+use Rattle.std.specs.Prelude.{◌≡◌, true, Some}
 use Rattle.clap.specs.Words.{App, Text, new_app, new_rule, with_rule}
 use Rattle.clap.specs.Simple.{on_top}
 use Rattle.clap_words.specs.declared.error.WordsError.{WordsError}
@@ -19,9 +18,6 @@ bare name =
 -- an option is read back by its long name, and has one value, a text
 abbrev pub with_option : App → Text → App
 with_option app name = with_rule app (record (new_rule name) { long = Some name })
-
-abbrev pub texts_of : List (String Global) → List Text
-texts_of words = map string_bytes words
 
 -- nothing fits
 abbrev pub NoneFits : {X : Type 0} → (X → Type 0) → WordsError → Type 0

@@ -6,9 +6,9 @@ use Rattle.base_model.specs.Faults.{Rose}
 use Rattle.script_lines.specs.Columns.{BreaksAt}
 use Rattle.script_lines.specs.declared.lengths.TheConstants.{LONGEST_LINE}
 use Rattle.apei_notify.specs.Telling.{Hearing}
-use Rattle.script_lines.specs.Causes.{HasSourceCause, HasSinkCause}
+use Rattle.script_lines.specs.Causes.{HasCauseOf, OfSource, OfSink}
 use Rattle.script_lines.specs.Lines.{Line as TextLine, Reading, lines_of, IsTooLong, IsNextLine}
-use Rattle.script_lines.specs.Played.{IsLineOf, AreInGrammar}
+use Rattle.script_lines.specs.Played.{IsLineOf}
 use Rattle.script_lines.specs.Reads.{HasRead, StandsAt, AreReadInOrder, last_line}
 use Rattle.hub_script.specs.HubGrammar.{IsLine}
 use Rattle.hub_script.specs.HubText.{IsWritten}
@@ -25,6 +25,7 @@ use Rattle.script_lines.specs.declared.ending.ScriptEnd.{ScriptEnd}
 use Rattle.script_lines.specs.declared.ending.ScriptEnd.TheVariants.{Done, BadLine, SinkFault, Memory}
 use Rattle.script_lines.proofs.PlayedLemmas.{ArePlayed, IsBadFrom, ArePlayed-push, is_line, is_bad, stops_at, ends_behind, whole, not_memory, ends_none as lines_end, is_done as lines_done}
 use Rattle.hub_script.proofs.ServedLemmas.{are_served}
+use Rattle.std.specs.Prelude.{All}
 
 -- a line within the lengths has no more bytes than are parsed
 pub is_short : (text : List ℕ) (line : TextLine) → text ≡ line.text → (IsTooLong line → ⊥) → length text ≤ LONGEST_LINE
@@ -155,7 +156,7 @@ serves_script {L} hearing told_source told_sink old new script rest written now 
 
 -- where all lines are in the grammar and no fault was counted, all are read
 pub is_done : {L : Type 0} (hearing : L → Hearing) (told_source told_sink : Type 0) (old new : HubStage L) (script rest written now : List ℕ) (source source_now sink sink_now : ℕ) (ending : ScriptEnd)
-    → PlaysScript hearing (stream_of told_source script rest) (stream_of told_sink written now) old new ending → HasSourceCause source source_now (fault_of ending) → HasSinkCause sink sink_now (fault_of ending)
-    → told_source → AreInGrammar IsLine (lines_of 0 script) → (Rose source source_now → ⊥) → (Rose sink sink_now → ⊥) → (ending ≡ Done) ⊎ (ending ≡ Memory)
+    → PlaysScript hearing (stream_of told_source script rest) (stream_of told_sink written now) old new ending → HasCauseOf OfSource source source_now (fault_of ending) → HasCauseOf OfSink sink sink_now (fault_of ending)
+    → told_source → All (IsLineOf IsLine) (lines_of 0 script) → (Rose source source_now → ⊥) → (Rose sink sink_now → ⊥) → (ending ≡ Done) ⊎ (ending ≡ Memory)
 is_done hearing told_source told_sink old new script rest written now source source_now sink sink_now ending plays in_cause out_cause told all no_source no_sink =
     lines_done IsLine GivesTable script rest plays.lines source source_now sink sink_now ending (plays.ends told) in_cause out_cause all no_source no_sink

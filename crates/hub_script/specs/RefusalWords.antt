@@ -1,6 +1,5 @@
 -- The words of refusals.
-use Rattle.std.specs.Prelude.{ℕ, List, [], ◌++◌, codes}
-use Rattle.script_lines.specs.Words.{word_and_number, word_and_two_numbers}
+use Rattle.std.specs.Prelude.{ℕ, List, [], ◌++◌, codes, decimal}
 use Rattle.ghes_hub.specs.declared.errors.HubError.{HubError}
 use Rattle.ghes_hub.specs.declared.errors.HubError.TheVariants.{NoSource, Many, BlockLen, Status, Ack, Clash, Memory}
 use Rattle.script_text.specs.SubmitWords.{words_of_submit}
@@ -10,11 +9,11 @@ use Rattle.hub_script.specs.declared.refusals.HubRefusal.TheVariants.{Open, Tabl
 
 abbrev pub words_of_hub : HubError → List ℕ
 words_of_hub NoSource = codes "no-source"
-words_of_hub (Many found) = word_and_number (codes "many ") found
-words_of_hub (BlockLen i len) = word_and_two_numbers (codes "block-len ") i len
-words_of_hub (Status i) = word_and_number (codes "status ") i
-words_of_hub (Ack i) = word_and_number (codes "ack ") i
-words_of_hub (Clash i) = word_and_number (codes "clash ") i
+words_of_hub (Many found) = codes "many " ++ decimal found
+words_of_hub (BlockLen i len) = codes "block-len " ++ decimal i ++ codes " " ++ decimal len
+words_of_hub (Status i) = codes "status " ++ decimal i
+words_of_hub (Ack i) = codes "ack " ++ decimal i
+words_of_hub (Clash i) = codes "clash " ++ decimal i
 words_of_hub Memory = []
 
 -- want of memory has no words

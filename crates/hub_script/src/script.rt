@@ -1,7 +1,7 @@
 // A script of several error sources, played line by line.
-ghost use Rattle.std.specs.Prelude.{◌≡◌, ◌⊎◌, ⊤};
+ghost use Rattle.std.specs.Prelude.{◌≡◌, ◌⊎◌, ⊤, All};
 ghost use Rattle.base_model.specs.Faults.{Rose};
-ghost use Rattle.script_lines.specs.{Causes.HasSourceCause, Causes.HasSinkCause, Ends.fault_of, Lines.lines_of, Played.AreInGrammar, Reads.first_reading, Streams.stream_of};
+ghost use Rattle.script_lines.specs.{Causes.HasCauseOf, Causes.OfSource, Causes.OfSink, Ends.fault_of, Lines.lines_of, Played.IsLineOf, Reads.first_reading, Streams.stream_of};
 ghost use Rattle.hub_script.specs.{HubGrammar.IsLine, Made.stage_of, Scripts.PlaysScript, Scripts.ServesScript};
 
 use crate::player::{HubPlayer, HubStop};
@@ -18,8 +18,8 @@ fn play_lines<I: Source, O: Sink>(
     out: &mut O,
 ) -> ScriptEnd
     requires { lines.old ≡ first_reading }
-    ensures source { HasSourceCause (I.faults script.old) (I.faults script.new) (fault_of result) }
-    ensures sink { HasSinkCause (O.faults out.old) (O.faults out.new) (fault_of result) }
+    ensures source { HasCauseOf OfSource (I.faults script.old) (I.faults script.new) (fault_of result) }
+    ensures sink { HasCauseOf OfSink (O.faults out.old) (O.faults out.new) (fault_of result) }
     ensures played { PlaysScript hearing (stream_of I.tells (I.rest script.old) (I.rest script.new))
         (stream_of O.tells (O.written out.old) (O.written out.new))
         (stage_of player.old) (stage_of player.new) result }
@@ -60,10 +60,10 @@ pub fn serve_script<I: Source, O: Sink>(
         × (result.1.items ≡ listeners.items))
         ⊎ ServesScript hearing (stream_of I.tells (I.rest script.old) (I.rest script.new))
         (stream_of O.tells (O.written out.old) (O.written out.new)) listeners.items result.1.items result.0 }
-    ensures source { HasSourceCause (I.faults script.old) (I.faults script.new) (fault_of result.0) }
-    ensures sink { HasSinkCause (O.faults out.old) (O.faults out.new) (fault_of result.0) }
+    ensures source { HasCauseOf OfSource (I.faults script.old) (I.faults script.new) (fault_of result.0) }
+    ensures sink { HasCauseOf OfSink (O.faults out.old) (O.faults out.new) (fault_of result.0) }
     // A script whose lines are all in the grammar and within the lengths is read to its end, want of memory aside.
-    ensures done { I.tells → AreInGrammar IsLine (lines_of 0 (I.rest script.old))
+    ensures done { I.tells → All (IsLineOf IsLine) (lines_of 0 (I.rest script.old))
         → (Rose (I.faults script.old) (I.faults script.new) → ⊥) → (Rose (O.faults out.old) (O.faults out.new) → ⊥)
         → (result.0 ≡ ScriptEnd.Done) ⊎ (result.0 ≡ ScriptEnd.Memory) }
 {

@@ -3,11 +3,12 @@ use Rattle.std.proofs.Common.{◌≡◌, ℕ, zero, suc, ◌+◌, ◌-◌, ◌<�
 use Rattle.std.proofs.lemmas.List.{take-append-drop, drop-drop, drop-take, length-take}
 use Rattle.std.proofs.Math.Seq.{take-add}
 use Rattle.std.specs.List.{onto_first, slice_split}
-use Rattle.script_lines.specs.Lines.{IsOneLine, IsFirstLine, Line, is_newline, line_before, lines_in, lines_of, ended_lines_of}
+use Rattle.script_lines.specs.Lines.{IsOneLine, IsFirstLine, Line, lines_in, lines_of, ended_lines_of}
+use Rattle.std.specs.Prelude.{◌==◌}
 
 -- a script cut at its newlines
 abbrev pub parts_of : List ℕ → List (List ℕ)
-parts_of script = slice_split is_newline script
+parts_of script = slice_split (λ byte. byte == 10) script
 
 -- a test that doesn't pass
 fails : (b : Bool) → (b ≡ true → ⊥) → b ≡ false
@@ -15,11 +16,11 @@ fails true h = absurd (h refl)
 fails false h = refl
 
 -- a search that found no newline, and one that found the first
-pub IsOneLine-each : (text : List ℕ) → ((k : ℕ) → k < length text → is_newline (get_or text k 0) ≡ true → ⊥) → IsOneLine text
+pub IsOneLine-each : (text : List ℕ) → ((k : ℕ) → k < length text → ((get_or text k 0) == 10) ≡ true → ⊥) → IsOneLine text
 IsOneLine-each [] each = tt
-IsOneLine-each (byte ∷ text) each = (fails (is_newline byte) (each 0 (omega arith)), IsOneLine-each text (λ k h. each (suc k) (omega arith)))
+IsOneLine-each (byte ∷ text) each = (fails (byte == 10) (each 0 (omega arith)), IsOneLine-each text (λ k h. each (suc k) (omega arith)))
 
-pub IsFirstLine-found : (bytes : List ℕ) (at : ℕ) → at < length bytes → ((k : ℕ) → k < at → is_newline (get_or bytes k 0) ≡ true → ⊥) → is_newline (get_or bytes at 0) ≡ true → IsFirstLine at bytes
+pub IsFirstLine-found : (bytes : List ℕ) (at : ℕ) → at < length bytes → ((k : ℕ) → k < at → ((get_or bytes k 0) == 10) ≡ true → ⊥) → ((get_or bytes at 0) == 10) ≡ true → IsFirstLine at bytes
 IsFirstLine-found [] at h none found = absurd (omega arith)
 IsFirstLine-found (byte ∷ bytes) zero h none found = record {
   within = h;
@@ -31,7 +32,7 @@ IsFirstLine-found (byte ∷ bytes) (suc at) h none found =
     let place : suc (at + 1) ≡ suc at + 1 = omega arith in
     record {
       within = h;
-      one_line = (fails (is_newline byte) (none 0 (omega arith)), later.one_line);
+      one_line = (fails (byte == 10) (none 0 (omega arith)), later.one_line);
       newline = ap (λ (bs : List ℕ). byte ∷ bs) (later.newline ∙ ap (λ (n : ℕ). take at bytes ++ 10 ∷ drop n (byte ∷ bytes)) place);
     }
 
@@ -61,9 +62,9 @@ IsFirstLine-scanned scanned at bytes h first =
 -- a script has no newline, or a first one
 pub first_newline : (script : List ℕ) → IsOneLine script ⊎ ((text : List ℕ) × (rest : List ℕ) × (script ≡ text ++ 10 ∷ rest) × IsOneLine text)
 first_newline [] = inl tt
-first_newline (byte ∷ script) = by_byte (is_newline byte) refl (first_newline script)
+first_newline (byte ∷ script) = by_byte (byte == 10) refl (first_newline script)
   where
-    by_byte : (b : Bool) → is_newline byte ≡ b → IsOneLine script ⊎ ((text : List ℕ) × (rest : List ℕ) × (script ≡ text ++ 10 ∷ rest) × IsOneLine text)
+    by_byte : (b : Bool) → (byte == 10) ≡ b → IsOneLine script ⊎ ((text : List ℕ) × (rest : List ℕ) × (script ≡ text ++ 10 ∷ rest) × IsOneLine text)
         → IsOneLine (byte ∷ script) ⊎ ((text : List ℕ) × (rest : List ℕ) × (byte ∷ script ≡ text ++ 10 ∷ rest) × IsOneLine text)
     by_byte true e later = inr ([], script, ap (λ (b : ℕ). b ∷ script) (grind arith), tt)
     by_byte false e (inl h) = inl (e, h)
@@ -83,7 +84,7 @@ pub parts_of-some : (script : List ℕ) → (part : List ℕ) × (parts : List (
 parts_of-some [] = ([], [], refl)
 parts_of-some (byte ∷ script) =
     let later = parts_of-some script in
-    by_byte (is_newline byte) later.0 later.1 later.2
+    by_byte (byte == 10) later.0 later.1 later.2
   where
     by_byte : (b : Bool) (part : List ℕ) (parts : List (List ℕ)) → parts_of script ≡ part ∷ parts
         → (first : List ℕ) × (others : List (List ℕ)) × (cond b ([] ∷ parts_of script) (onto_first byte (parts_of script)) ≡ first ∷ others)
@@ -96,7 +97,7 @@ pub lines_of-newline : (at : ℕ) (text rest : List ℕ) → IsOneLine text
 unfolding lines_of
 lines_of-newline at text rest h = rw (parts_of-newline text rest h) (before text)
   where
-    before : (line : List ℕ) → line_before at line (parts_of rest) (lines_in (at + length line + 1) (parts_of rest)) ≡ record { text = line; end = at + length line + 1 } ∷ lines_in (at + length line + 1) (parts_of rest)
+    before : (line : List ℕ) → lines_in at (line ∷ parts_of rest) ≡ record { text = line; end = at + length line + 1 } ∷ lines_in (at + length line + 1) (parts_of rest)
     before [] = let some = parts_of-some rest in rw some.2 refl
     before (byte ∷ line) = let some = parts_of-some rest in rw some.2 refl
 

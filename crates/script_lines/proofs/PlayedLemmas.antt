@@ -1,15 +1,17 @@
 -- Laws of lines that were played one after another, and of the end of their script.
-use Rattle.std.proofs.Common.{◌≡◌, ℕ, ◌⊎◌, inl, inr, List, [], ◌∷◌, ◌++◌, refl, sym, subst, ◌∙◌, append_assoc, ◌+◌}
+use Rattle.std.proofs.Common.{◌≡◌, ℕ, ◌⊎◌, inl, inr, List, [], ◌∷◌, ◌++◌, refl, sym, subst, ◌∙◌, append_assoc, ◌+◌, ◌<◌, length, arith}
+use Rattle.std.proofs.Math.Seq.{get_or-append_seam}
 use Rattle.std.specs.List.{AllZip}
 use Rattle.base_model.specs.Faults.{Rose}
 use Rattle.script_lines.specs.Columns.{BreaksAt}
-use Rattle.script_lines.specs.Causes.{HasSourceCause, HasSinkCause}
+use Rattle.script_lines.specs.Causes.{HasCauseOf, OfSource, OfSink}
 use Rattle.script_lines.specs.Ends.{EndsReading, fault_of}
 use Rattle.script_lines.specs.Lines.{Line, Reading, lines_of, IsTooLong, IsNextLine}
 use Rattle.script_lines.specs.Reads.{HasRead, StandsAt, AreReadInOrder, last_line}
-use Rattle.script_lines.specs.Played.{IsLineOf, AreInGrammar, StopsAt, EndsBehind, PlaysByFault}
+use Rattle.script_lines.specs.Played.{IsLineOf, StopsAt, EndsBehind, PlaysByFault}
 use Rattle.script_lines.specs.declared.ending.ScriptEnd.{ScriptEnd}
 use Rattle.script_lines.specs.declared.ending.ScriptEnd.TheVariants.{Done, BadLine, SourceFault, SinkFault, TooLong, Memory}
+use Rattle.std.specs.Prelude.{All}
 
 -- the lines were played, each as what its text is read as
 abbrev pub ArePlayed : {P : Type 0} → (List ℕ → P → Type 0) → List Line → List P → Type 0
@@ -73,25 +75,29 @@ not_memory tells a b rest rest_now SinkFault end is = end
 not_memory tells a b rest rest_now (TooLong number) end is = cc is
 not_memory tells a b rest rest_now Memory end is = end
 
--- a line among those of a grammar
-in_grammar_at : (Is : List ℕ → Type 0) (before : List Line) (line : Line) (behind : List Line) → AreInGrammar Is (before ++ line ∷ behind) → IsLineOf Is line
-in_grammar_at Is [] line behind all = all.0
-in_grammar_at Is (first ∷ before) line behind all = in_grammar_at Is before line behind all.1
+seam : (before : List Line) (line : Line) (behind : List Line) → length before < length (before ++ line ∷ behind)
+seam [] line behind = omega arith
+seam (first ∷ before) line behind = let below = seam before line behind in omega arith
 
-stopped_in_grammar : (Is : List ℕ → Type 0) (IsThere : Line → Type 0) (script : List ℕ) (before : List Line) (number : ℕ) → AreInGrammar Is (lines_of 0 script) → (stops : StopsAt IsThere script before number)
+-- a line among those of a grammar
+in_grammar_at : (Is : List ℕ → Type 0) (before : List Line) (line : Line) (behind : List Line) → (All (IsLineOf Is) (before ++ line ∷ behind)) → IsLineOf Is line
+in_grammar_at Is before line behind all =
+    subst (IsLineOf Is) (get_or-append_seam before line behind line) (all (length before) line (seam before line behind))
+
+stopped_in_grammar : (Is : List ℕ → Type 0) (IsThere : Line → Type 0) (script : List ℕ) (before : List Line) (number : ℕ) → All (IsLineOf Is) (lines_of 0 script) → (stops : StopsAt IsThere script before number)
     → IsLineOf Is stops.line
-stopped_in_grammar Is IsThere script before number all stops = in_grammar_at Is before stops.line stops.stands.behind (subst (AreInGrammar Is) stops.stands.lines all)
+stopped_in_grammar Is IsThere script before number all stops = in_grammar_at Is before stops.line stops.stands.behind (subst (All (IsLineOf Is)) stops.stands.lines all)
 
 -- no line that is none stops a script whose lines are all of the grammar, and none that is too long
-pub not_bad : (Is : List ℕ → Type 0) (script : List ℕ) (lines : List Line) (number column : ℕ) → AreInGrammar Is (lines_of 0 script) → StopsAt (IsBadFrom Is column) script lines number → ⊥
+pub not_bad : (Is : List ℕ → Type 0) (script : List ℕ) (lines : List Line) (number column : ℕ) → All (IsLineOf Is) (lines_of 0 script) → StopsAt (IsBadFrom Is column) script lines number → ⊥
 not_bad Is script lines number column all stops = stops.is.is.1.outside (stopped_in_grammar Is (IsBadFrom Is column) script lines number all stops).is
 
-pub not_long : (Is : List ℕ → Type 0) (script : List ℕ) (lines : List Line) (number : ℕ) → AreInGrammar Is (lines_of 0 script) → StopsAt IsTooLong script lines number → ⊥
+pub not_long : (Is : List ℕ → Type 0) (script : List ℕ) (lines : List Line) (number : ℕ) → All (IsLineOf Is) (lines_of 0 script) → StopsAt IsTooLong script lines number → ⊥
 not_long Is script lines number all stops = (stopped_in_grammar Is IsTooLong script lines number all stops).within stops.is
 
 -- where no fault was counted, it is read to its end, or there was no memory
 pub is_done : (Is WantsMemory : List ℕ → Type 0) (script rest : List ℕ) (lines : List Line) (source source_now sink sink_now : ℕ) (ending : ScriptEnd) → EndsBehind Is WantsMemory script rest lines ending
-    → HasSourceCause source source_now (fault_of ending) → HasSinkCause sink sink_now (fault_of ending) → AreInGrammar Is (lines_of 0 script)
+    → HasCauseOf OfSource source source_now (fault_of ending) → HasCauseOf OfSink sink sink_now (fault_of ending) → All (IsLineOf Is) (lines_of 0 script)
     → (Rose source source_now → ⊥) → (Rose sink sink_now → ⊥) → (ending ≡ Done) ⊎ (ending ≡ Memory)
 is_done Is WantsMemory script rest lines source source_now sink sink_now Done ends in_cause out_cause all no_source no_sink = inl refl
 is_done Is WantsMemory script rest lines source source_now sink sink_now (BadLine number column) ends in_cause out_cause all no_source no_sink = absurd (not_bad Is script lines number column all ends)

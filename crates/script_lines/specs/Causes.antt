@@ -8,11 +8,8 @@ pub data Fault : Type 0 where
   OfSink : Fault
   NoFault : Fault
 
--- a fault comes only where its count rose, and every other answer leaves the count
-abbrev pub HasSourceCause : ℕ → ℕ → Fault → Type 0
-HasSourceCause before after OfSource = Rose before after
-HasSourceCause before after fault = after ≡ before
-
-abbrev pub HasSinkCause : ℕ → ℕ → Fault → Type 0
-HasSinkCause before after OfSink = Rose before after
-HasSinkCause before after fault = after ≡ before
+-- what is counted of the source, or of the sink: its count rose where a fault of it is told, and every other answer leaves the count
+abbrev pub HasCauseOf : Fault → ℕ → ℕ → Fault → Type 0
+HasCauseOf OfSource before after OfSource = Rose before after
+HasCauseOf OfSink before after OfSink = Rose before after
+HasCauseOf counted before after fault = after ≡ before

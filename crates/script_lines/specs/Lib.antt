@@ -1,7 +1,6 @@
 pub mod Columns
 pub mod Keywords
 pub mod Parts
-pub mod Words
 pub mod Causes
 pub mod Ends
 pub mod Streams

@@ -8,35 +8,26 @@ pub record Line : Type 0 where
   pub text : List ℕ
   pub end : ℕ
 
-abbrev pub is_newline : ℕ → Bool
-is_newline byte = byte == 10
-
 -- A script is cut at its newlines; what is behind the last newline is a part too. A part that another follows is ended by a newline. The last part is
 -- a line where it isn't empty
-abbrev pub line_before : ℕ → List ℕ → List (List ℕ) → List Line → List Line
-line_before at [] [] later = []
-line_before at (byte ∷ text) [] later = record { text = byte ∷ text; end = at + length (byte ∷ text) } ∷ []
-line_before at text (part ∷ parts) later = record { text = text; end = at + length text + 1 } ∷ later
-
 abbrev pub lines_in : ℕ → List (List ℕ) → List Line
 lines_in at [] = []
-lines_in at (part ∷ parts) = line_before at part parts (lines_in (at + length part + 1) parts)
+lines_in at ([] ∷ []) = []
+lines_in at ((byte ∷ text) ∷ []) = record { text = byte ∷ text; end = at + length (byte ∷ text) } ∷ []
+lines_in at (text ∷ part ∷ parts) = record { text = text; end = at + length text + 1 } ∷ lines_in (at + length text + 1) (part ∷ parts)
 
 -- the lines of a script that begins at a place
 unfoldable pub lines_of : ℕ → List ℕ → List Line
-lines_of at script = lines_in at (slice_split is_newline script)
+lines_of at script = lines_in at (slice_split (λ byte. byte == 10) script)
 
 -- of these, the lines that newlines end
-abbrev pub ended_before : ℕ → List ℕ → List (List ℕ) → List Line → List Line
-ended_before at text [] later = []
-ended_before at text (part ∷ parts) later = record { text = text; end = at + length text + 1 } ∷ later
-
 abbrev pub ended_in : ℕ → List (List ℕ) → List Line
 ended_in at [] = []
-ended_in at (part ∷ parts) = ended_before at part parts (ended_in (at + length part + 1) parts)
+ended_in at (text ∷ []) = []
+ended_in at (text ∷ part ∷ parts) = record { text = text; end = at + length text + 1 } ∷ ended_in (at + length text + 1) (part ∷ parts)
 
 unfoldable pub ended_lines_of : ℕ → List ℕ → List Line
-ended_lines_of at script = ended_in at (slice_split is_newline script)
+ended_lines_of at script = ended_in at (slice_split (λ byte. byte == 10) script)
 
 -- a line's text is longer than the longest, or the line ends past byte 2 ^ 24 of the script
 abbrev pub IsTooLong : Line → Type 0
@@ -58,7 +49,7 @@ lines_ahead reading rest = lines_of reading.end (reading.pending ++ rest)
 -- no byte is a newline
 abbrev pub IsOneLine : List ℕ → Type 0
 IsOneLine [] = Unit {0}
-IsOneLine (byte ∷ text) = (is_newline byte ≡ false) × IsOneLine text
+IsOneLine (byte ∷ text) = ((byte == 10) ≡ false) × IsOneLine text
 
 -- the first newline of some bytes stands at a place
 pub record IsFirstLine (at : ℕ) (bytes : List ℕ) : Type 0 where

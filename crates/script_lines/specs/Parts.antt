@@ -2,10 +2,6 @@
 use Rattle.std.specs.Prelude.{◌≡◌, ℕ, ◌*◌, ◌<◌, ◌≤◌, List, [], ◌∷◌, ◌++◌, length, take, decimal, All, IsTrue}
 use Rattle.std.specs.Char.{is_ascii_hexdigit}
 
--- nothing
-abbrev pub IsEnd : List ℕ → Type 0
-IsEnd text = text ≡ []
-
 -- one or more pairs of hexadecimal digits of either case
 pub record IsPairs (text : List ℕ) : Type 0 where
   pub digits : All (λ c. IsTrue (is_ascii_hexdigit c)) text

@@ -1,5 +1,5 @@
 -- Lines of a script that were read and played one after another: which they are, by the end of the script, and which of them was left in part.
-use Rattle.std.specs.Prelude.{◌≡◌, ℕ, List, [], ◌∷◌, ◌++◌}
+use Rattle.std.specs.Prelude.{◌≡◌, ℕ, List, [], ◌∷◌, ◌++◌, All}
 use Rattle.std.specs.List.{AllZip}
 use Rattle.script_lines.specs.Causes.{Fault, OfSink}
 use Rattle.script_lines.specs.Columns.{BreaksAt}
@@ -12,11 +12,6 @@ use Rattle.script_lines.specs.declared.ending.ScriptEnd.TheVariants.{Done, BadLi
 pub record IsLineOf (Is : List ℕ → Type 0) (line : Line) : Type 0 where
   pub within : IsTooLong line → ⊥
   pub is : Is line.text
-
--- so it is of each line: the lines are of a grammar
-abbrev pub AreInGrammar : (List ℕ → Type 0) → List Line → Type 0
-AreInGrammar Is [] = Unit {0}
-AreInGrammar Is (line ∷ lines) = IsLineOf Is line × AreInGrammar Is lines
 
 -- this is so of the line of a script that stands behind some, with this number
 pub record StopsAt (Is : Line → Type 0) (script : List ℕ) (before : List Line) (number : ℕ) : Type 0 where

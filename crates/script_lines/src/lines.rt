@@ -1,7 +1,7 @@
 // The lines of a script, cut from a source in memory that is taken once.
 ghost use Rattle.std.specs.Prelude.{◌≡◌, ◌≢◌, ◌⊎◌, ◌↔◌, ℕ, ◌+◌, ◌-◌, ◌^◌, ◌<◌, ◌≤◌, true, false, List, [], ◌∷◌, ◌++◌, length, take, drop, slice_index, IsTrue, IfSome, IfOk, IfErr, OnOk, OnErr, MatchOption, MatchResult, MatchBool, vec_len};
 ghost use Rattle.base_model.specs.Faults.{HasCause, Rose};
-ghost use Rattle.script_lines.specs.Causes.{HasSourceCause};
+ghost use Rattle.script_lines.specs.Causes.{HasCauseOf, OfSource};
 ghost use Rattle.script_lines.specs.Ends.{EndsReading, fault_of};
 ghost use Rattle.script_lines.specs.Lines.{Line, Reading, lines_of, ended_lines_of, lines_ahead, IsNextLine, IsAtEnd, NextIsTooLong, HasNoLine, IsOneLine, IsFirstLine, StaysAt, TakesMore, TakesLine, SamePlace, PastLimits, IsTooLong};
 
@@ -143,7 +143,7 @@ impl LineReader {
         ensures in_time { result ≡ Err ScriptEnd.SourceFault → ¬ (PastLimits self.old.end (length self.new.pending) 0) }
         ensures at_end { I.tells → self.new.at_end ≡ true → I.rest script.new ≡ [] }
         ensures no_fault { OnOk result (I.faults script.new ≡ I.faults script.old) }
-        ensures cause { IfErr result (λ end. HasSourceCause (I.faults script.old) (I.faults script.new)
+        ensures cause { IfErr result (λ end. HasCauseOf OfSource (I.faults script.old) (I.faults script.new)
             (fault_of end)) }
     {
         match self.advance(script) {

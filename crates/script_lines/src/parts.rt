@@ -1,12 +1,12 @@
 // What may follow a keyword.
-ghost use Rattle.std.specs.Prelude.{◌≡◌, ℕ, ◌+◌, ◌*◌, ◌<◌, ◌≤◌, ◌↔◌, ◌++◌, ◌∷◌, length, decimal, All, IsTrue, MatchOption, MatchResult};
+ghost use Rattle.std.specs.Prelude.{◌≡◌, ℕ, ◌+◌, ◌*◌, ◌<◌, ◌≤◌, ◌↔◌, ◌++◌, ◌∷◌, length, decimal, All, IsTrue, MatchOption, MatchResult, []};
 ghost use Rattle.std.specs.Char.{is_ascii_hexdigit};
 ghost use Rattle.script_lines.specs.Columns.{Breaks};
-ghost use Rattle.script_lines.specs.Parts.{IsEnd, IsPairs, IsNumber, AreTwoNumbers, IsLongestNumber};
+ghost use Rattle.script_lines.specs.Parts.{IsPairs, IsNumber, AreTwoNumbers, IsLongestNumber};
 
 /// Nothing.
 pub fn end(text: &[u8]) -> Result<(), usize>
-    ensures { MatchResult result (λ _. IsEnd text.now) (λ reach. Breaks IsEnd text.now reach) }
+    ensures { MatchResult result (λ _. text.now ≡ []) (λ reach. Breaks (λ text. text ≡ []) text.now reach) }
 {
     if text.is_empty() { Ok(()) } else { Err(0) }
 }

@@ -1,6 +1,5 @@
 // A text of words and numbers.
-ghost use Rattle.std.specs.Prelude.{◌≡◌, ◌+◌, ◌≤◌, [], ◌++◌, length, decimal};
-ghost use Rattle.script_lines.specs.Words.{word_and_number, word_and_two_numbers};
+ghost use Rattle.std.specs.Prelude.{◌≡◌, ◌+◌, ◌≤◌, [], ◌++◌, length, decimal, codes};
 
 use itoa::Buffer;
 use std::marker::Model;
@@ -64,7 +63,7 @@ impl LineText {
     /// Appends a word and a number.
     pub fn add_one(&mut self, word: &[u8], n: u64)
         requires { length self.old + length word.now ≤ 236 }
-        ensures text { self.new ≡ self.old ++ word_and_number word.now n }
+        ensures text { self.new ≡ self.old ++ (word.now ++ decimal n) }
         ensures short { length self.new ≤ length self.old + length word.now + 20 }
     {
         self.add(word);
@@ -74,7 +73,7 @@ impl LineText {
     /// Appends a word and a number of one byte, which has three digits at most.
     pub fn add_byte(&mut self, word: &[u8], n: u8)
         requires { length self.old + length word.now ≤ 253 }
-        ensures text { self.new ≡ self.old ++ word_and_number word.now n }
+        ensures text { self.new ≡ self.old ++ (word.now ++ decimal n) }
         ensures short { length self.new ≤ length self.old + length word.now + 3 }
     {
         self.add(word);
@@ -84,7 +83,7 @@ impl LineText {
     /// Appends a word and two numbers.
     pub fn add_two(&mut self, word: &[u8], m: u64, n: u64)
         requires { length self.old + length word.now ≤ 215 }
-        ensures text { self.new ≡ self.old ++ word_and_two_numbers word.now m n }
+        ensures text { self.new ≡ self.old ++ (word.now ++ decimal m ++ codes " " ++ decimal n) }
         ensures short { length self.new ≤ length self.old + length word.now + 41 }
     {
         self.add_one(word, m);

@@ -198,6 +198,6 @@ script = language codes_of Follows all_words IsValid text_of alone sample (blank
 
 -- what a text that was read means
 pub means : (text : List ℕ) (line : ScriptLine) → IsText text line → Means text (line_of line)
-means text parsed.Blank (inl empty) = AsWritten _ empty
+means text parsed.Blank (inl empty) = AsWritten (line_of parsed.Blank) empty
 means text parsed.Blank (inr (rest, is)) = AsComment rest is
-means text line is = AsWritten _ is
+means text line is = AsWritten (line_of line) is

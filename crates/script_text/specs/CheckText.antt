@@ -1,10 +1,8 @@
 -- What a text is read as where it is checked.
-use Rattle.std.specs.Prelude.{◌≡◌, ℕ, ◌⊎◌, List, ◌++◌}
+use Rattle.std.specs.Prelude.{◌≡◌, ℕ, ◌⊎◌, List}
 use Rattle.script_text.specs.CheckGrammar.{CheckedLine, IsValidCheck, check_text_of, blank, comment, erst, hest, bert, one_record, block}
-use Rattle.script_text.specs.CheckWords.{check_codes_of}
 use Rattle.script_text.specs.declared.check_line.CheckLine.{CheckLine}
 use Rattle.script_text.specs.declared.check_line.CheckLine.TheVariants.{Blank, Erst, Hest, Bert, Record, Block}
-use Rattle.script_text.specs.declared.check_line.CheckWord.{CheckWord}
 
 -- the line that is meant
 abbrev pub checked_line_of : CheckLine → CheckedLine
@@ -15,15 +13,7 @@ checked_line_of (Bert hex) = bert hex.now
 checked_line_of (Record hex) = one_record hex.now
 checked_line_of (Block hex) = block hex.now
 
--- a text is written so
-abbrev pub IsCheckWritten : List ℕ → CheckedLine → Type 0
-IsCheckWritten text line = IsValidCheck line × (text ≡ check_text_of line)
-
 -- a text is this line; a blank line is empty or a comment
 abbrev pub IsCheckText : List ℕ → CheckLine → Type 0
-IsCheckText text Blank = IsCheckWritten text blank ⊎ ((rest : List ℕ) × IsCheckWritten text (comment rest))
-IsCheckText text line = IsCheckWritten text (checked_line_of line)
-
--- a keyword and what follows it are this line
-abbrev pub IsCheckTextBehind : CheckWord → List ℕ → CheckLine → Type 0
-IsCheckTextBehind word rest line = IsCheckText (check_codes_of word ++ rest) line
+IsCheckText text Blank = (IsValidCheck blank × (text ≡ check_text_of blank)) ⊎ ((rest : List ℕ) × (IsValidCheck (comment rest) × (text ≡ check_text_of (comment rest))))
+IsCheckText text line = IsValidCheck (checked_line_of line) × (text ≡ check_text_of (checked_line_of line))

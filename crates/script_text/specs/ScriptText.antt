@@ -1,6 +1,6 @@
 -- What a text is read as: the keywords of script lines, what may follow each, and the lines that are read.
-use Rattle.std.specs.Prelude.{◌≡◌, ℕ, ◌⊎◌, List, [], ◌∷◌, ◌++◌, codes}
-use Rattle.script_lines.specs.Parts.{IsEnd, IsPairs, IsNumber, AreTwoNumbers}
+use Rattle.std.specs.Prelude.{◌≡◌, ℕ, ◌⊎◌, List, [], ◌∷◌, codes}
+use Rattle.script_lines.specs.Parts.{IsPairs, IsNumber, AreTwoNumbers}
 use Rattle.script_text.specs.Turns.{IsTurns}
 use Rattle.script_text.specs.ScriptGrammar.{Line, IsValid, text_of, blank, comment, write, read, clear, count, next, dummy, action, table, own_table, shadow_table, error, turns, peek, fatal, bert, heard, reset, power, bridge}
 use Rattle.script_text.specs.declared.script_line.ScriptLine.{ScriptLine}
@@ -34,10 +34,6 @@ abbrev pub all_words : List ScriptWord
 all_words = keyword.Comment ∷ keyword.Write ∷ keyword.Read ∷ keyword.Clear ∷ keyword.Count ∷ keyword.Next ∷ keyword.Dummy ∷ keyword.Action ∷ keyword.Table ∷ keyword.Error ∷ keyword.Turns ∷ keyword.Peek ∷ keyword.Fatal ∷ keyword.Bert
     ∷ keyword.Heard ∷ keyword.Reset ∷ keyword.Power ∷ keyword.Bridge ∷ []
 
--- a table in digits, the machine's own, or its shadow
-abbrev pub IsTable : List ℕ → Type 0
-IsTable text = IsPairs text ⊎ ((text ≡ codes "own") ⊎ (text ≡ codes "shadow"))
-
 -- what may follow a keyword: anything behind that of a comment, and nothing behind those that are not named here
 abbrev pub Follows : ScriptWord → List ℕ → Type 0
 Follows keyword.Comment = λ text. Unit {0}
@@ -45,13 +41,13 @@ Follows keyword.Write = IsPairs
 Follows keyword.Read = IsNumber 0 0xFFFF_FFFF_FFFF_FFFF
 Follows keyword.Clear = IsNumber 0 0xFFFF_FFFF_FFFF_FFFF
 Follows keyword.Action = AreTwoNumbers 255 0 0xFFFF_FFFF_FFFF_FFFF
-Follows keyword.Table = IsTable
+Follows keyword.Table = λ text. IsPairs text ⊎ ((text ≡ codes "own") ⊎ (text ≡ codes "shadow"))
 Follows keyword.Error = IsPairs
 Follows keyword.Turns = IsTurns
 Follows keyword.Peek = AreTwoNumbers 0xFFFF_FFFF_FFFF_FFFF 1 4096
 Follows keyword.Fatal = IsPairs
 Follows keyword.Bridge = IsNumber 0 0xFFFF_FFFF_FFFF_FFFF
-Follows word = IsEnd
+Follows word = λ text. text ≡ []
 
 -- the line that is meant
 abbrev pub line_of : ScriptLine → Line
@@ -76,20 +72,12 @@ line_of Reset = reset
 line_of Power = power
 line_of (Bridge id) = bridge id
 
--- a text is written so
-abbrev pub IsWritten : List ℕ → Line → Type 0
-IsWritten text line = IsValid line × (text ≡ text_of line)
-
 -- what a text means: the line that is written so; a text that begins with '#' is a blank line
 pub data Means (text : List ℕ) : Line → Type 0 where
-  AsWritten : (line : Line) → IsWritten text line → Means text line
-  AsComment : (rest : List ℕ) → IsWritten text (comment rest) → Means text blank
+  AsWritten : (line : Line) → IsValid line × (text ≡ text_of line) → Means text line
+  AsComment : (rest : List ℕ) → IsValid (comment rest) × (text ≡ text_of (comment rest)) → Means text blank
 
 -- how each line that is read is written; a blank line is empty or a comment
 abbrev pub IsText : List ℕ → ScriptLine → Type 0
-IsText text Blank = IsWritten text blank ⊎ ((rest : List ℕ) × IsWritten text (comment rest))
-IsText text line = IsWritten text (line_of line)
-
--- a keyword and what follows it are this line
-abbrev pub IsTextBehind : ScriptWord → List ℕ → ScriptLine → Type 0
-IsTextBehind word rest line = IsText (codes_of word ++ rest) line
+IsText text Blank = (IsValid blank × (text ≡ text_of blank)) ⊎ ((rest : List ℕ) × (IsValid (comment rest) × (text ≡ text_of (comment rest))))
+IsText text line = IsValid (line_of line) × (text ≡ text_of (line_of line))

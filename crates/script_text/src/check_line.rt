@@ -3,7 +3,7 @@ ghost use Rattle.std.specs.Prelude.{◌≡◌, ℕ, ◌+◌, ◌≤◌, ◌++◌
 ghost use Rattle.script_lines.specs.Columns.{Breaks, BreaksAt};
 ghost use Rattle.script_lines.specs.declared.lengths.TheConstants.{LONGEST_LINE};
 ghost use Rattle.script_text.specs.CheckGrammar.{IsCheckLine};
-ghost use Rattle.script_text.specs.CheckText.{IsCheckText, IsCheckTextBehind};
+ghost use Rattle.script_text.specs.CheckText.{IsCheckText};
 ghost use Rattle.script_text.specs.CheckWords.{check_codes_of, CheckFollows};
 
 use crate::script_line::BadLine;
@@ -92,7 +92,7 @@ impl CheckLine<'_> {
 
     // The line of a keyword and what follows it.
     fn from_parts(word: CheckWord, rest: &[u8]) -> Result<CheckLine<'_>, usize>
-        ensures { MatchResult result (λ line. IsCheckTextBehind word rest.now line)
+        ensures { MatchResult result (λ line. IsCheckText (check_codes_of word ++ rest.now) line)
             (λ reach. Breaks (CheckFollows word) rest.now reach) }
     {
         match word {

@@ -1,10 +1,10 @@
 // The refusals that have words.
-ghost use Rattle.std.specs.Prelude.{ℕ, List};
+ghost use Rattle.std.specs.Prelude.{ℕ, List, ◌++◌, codes, decimal};
 ghost use Rattle.script_text.specs.TableWords.{words_of_table, words_of_erst, words_of_hest, ErstHasWords, HestHasWords};
 ghost use Rattle.script_text.specs.FrameWords.{words_of_frame, words_of_block};
 ghost use Rattle.script_text.specs.RunWords.{words_of_fault, words_of_stop};
 ghost use Rattle.script_text.specs.ClientWords.{words_of_attach, words_of_client};
-ghost use Rattle.script_text.specs.SubmitWords.{words_of_region, words_of_submit};
+ghost use Rattle.script_text.specs.SubmitWords.{words_of_submit};
 
 use crate::refusal::Refusal;
 use apei_space::SpaceFault;
@@ -208,7 +208,7 @@ impl Refusal for SubmitError {
 }
 
 impl Refusal for RegionFull {
-    ghost words = { words_of_region };
+    ghost words = { λ full. codes "region " ++ decimal full.need };
 
     ghost most_before = { 100 };
 

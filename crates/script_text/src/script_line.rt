@@ -1,10 +1,10 @@
 // A line of a script.
-ghost use Rattle.std.specs.Prelude.{◌≡◌, ℕ, ◌+◌, ◌<◌, ◌≤◌, ◌++◌, length, decimal, MatchResult};
+ghost use Rattle.std.specs.Prelude.{◌≡◌, ℕ, ◌+◌, ◌<◌, ◌≤◌, ◌++◌, length, decimal, MatchResult, ◌⊎◌, codes, []};
 ghost use Rattle.script_lines.specs.Columns.{Breaks, BreaksAt};
 ghost use Rattle.script_lines.specs.declared.lengths.TheConstants.{LONGEST_LINE};
-ghost use Rattle.script_lines.specs.Parts.{IsEnd, IsNumber};
+ghost use Rattle.script_lines.specs.Parts.{IsNumber, IsPairs};
 ghost use Rattle.script_text.specs.ScriptGrammar.{IsLine};
-ghost use Rattle.script_text.specs.ScriptText.{IsText, IsTextBehind, Follows, IsTable, codes_of};
+ghost use Rattle.script_text.specs.ScriptText.{IsText, Follows, codes_of};
 
 use crate::turns::turns;
 use script_lines::{Keyword, common_len, end, keyword_of, number, pairs, two_numbers};
@@ -151,7 +151,7 @@ impl ScriptLine<'_> {
 
     // The line of a keyword and what follows it.
     fn from_parts(word: ScriptWord, rest: &[u8]) -> Result<ScriptLine<'_>, usize>
-        ensures { MatchResult result (λ line. IsTextBehind word rest.now line)
+        ensures { MatchResult result (λ line. IsText (codes_of word ++ rest.now) line)
             (λ reach. Breaks (Follows word) rest.now reach) }
     {
         match word {
@@ -201,7 +201,7 @@ impl ScriptLine<'_> {
         rest: &[u8],
     ) -> Result<ScriptLine<'a>, usize>
         requires { IsText (codes_of word) line }
-        ensures { MatchResult result (λ line. IsTextBehind word rest.now line) (λ reach. Breaks IsEnd rest.now reach) }
+        ensures { MatchResult result (λ line. IsText (codes_of word ++ rest.now) line) (λ reach. Breaks (λ text. text ≡ []) rest.now reach) }
     {
         end(rest)?;
         Ok(line)
@@ -209,8 +209,8 @@ impl ScriptLine<'_> {
 
     // The line that takes a table into use: one in hexadecimal digits, the machine's own, or its shadow.
     fn from_table(rest: &[u8]) -> Result<ScriptLine<'_>, usize>
-        ensures { MatchResult result (λ line. IsTextBehind ScriptWord.Table rest.now line)
-            (λ reach. Breaks IsTable rest.now reach) }
+        ensures { MatchResult result (λ line. IsText (codes_of ScriptWord.Table ++ rest.now) line)
+            (λ reach. Breaks (λ text. IsPairs text ⊎ ((text ≡ codes "own") ⊎ (text ≡ codes "shadow"))) rest.now reach) }
     {
         if rest == b"own".as_slice() {
             return Ok(ScriptLine::TableOwn);

@@ -1,7 +1,6 @@
 // The line of a Boot Error Record Table.
-ghost use Rattle.std.specs.Prelude.{◌≡◌, ◌≢◌, ◌≤◌, length, Err, OnOk};
+ghost use Rattle.std.specs.Prelude.{◌≡◌, ◌≢◌, ◌≤◌, length, Err, OnOk, ◌++◌, codes, decimal};
 ghost use Rattle.apei_check.specs.Shown.{Shows, ShowsPart, HasStopCause};
-ghost use Rattle.apei_check.specs.TableLines.{bert_line};
 ghost use Rattle.apei_check.specs.Tables.{AreBertLines};
 
 use crate::text::{CheckStop, Show, write_refused};
@@ -25,7 +24,7 @@ pub fn check_bert<O: Sink>(bytes: &[u8], show: Show, out: &mut O) -> Result<(), 
 
 /// The line on a table of `len` bytes with `rest` behind it.
 fn table_line(table: &Bert, len: usize, rest: usize) -> LineText
-    ensures text { result ≡ bert_line len table.now rest }
+    ensures text { result ≡ codes "bert " ++ decimal len ++ codes " region " ++ decimal table.now.region ++ codes " bytes " ++ decimal table.now.len ++ codes " rest " ++ decimal rest }
     ensures short { length result ≤ 255 }
 {
     let mut line = LineText::new();

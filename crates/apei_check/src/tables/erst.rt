@@ -1,7 +1,7 @@
 // The lines of an Error Record Serialization Table.
-ghost use Rattle.std.specs.Prelude.{◌≡◌, ◌≤◌, ◌<◌, ◌^◌, length, Err, None, OnOk};
+ghost use Rattle.std.specs.Prelude.{◌≡◌, ◌≤◌, ◌<◌, ◌^◌, length, Err, None, OnOk, ◌++◌, codes, decimal};
 ghost use Rattle.apei_check.specs.Shown.{Shows, ShowsPart, HasStopCause};
-ghost use Rattle.apei_check.specs.TableLines.{erst_line, entry_line};
+ghost use Rattle.apei_check.specs.TableLines.{entry_line};
 ghost use Rattle.apei_check.specs.Tables.{AreErstLines};
 ghost use Rattle.erst_entries.specs.Tables.{refusal};
 
@@ -37,7 +37,7 @@ pub fn check_erst<O: Sink>(
 
 /// The line on a table.
 fn table_line(table: &ErstTable, len: usize, rest: usize) -> LineText
-    ensures text { result ≡ erst_line len (length table.now.entries) rest }
+    ensures text { result ≡ codes "erst " ++ decimal len ++ codes " entries " ++ decimal (length table.now.entries) ++ codes " rest " ++ decimal rest }
     ensures short { length result ≤ 255 }
 {
     let mut line = LineText::new();

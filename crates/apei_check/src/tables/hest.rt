@@ -1,7 +1,7 @@
 // The lines of a Hardware Error Source Table.
 ghost use Rattle.std.specs.Prelude.{◌≡◌, ◌≤◌, ◌++◌, length, codes, decimal, Err, None, OnOk};
 ghost use Rattle.apei_check.specs.Shown.{Shows, ShowsPart, HasStopCause};
-ghost use Rattle.apei_check.specs.TableLines.{hest_line, source_line};
+ghost use Rattle.apei_check.specs.TableLines.{source_line};
 ghost use Rattle.apei_check.specs.Tables.{AreHestLines};
 ghost use Rattle.hest_sources.specs.declared.sources.HestSource.TheVariants.{Ghes as Generic};
 ghost use Rattle.hest_sources.specs.Layout.{type_of};
@@ -39,7 +39,7 @@ pub fn check_hest<O: Sink>(
 
 /// The line on a table.
 fn table_line(sources: &[HestSource], len: usize, rest: usize) -> LineText
-    ensures text { result ≡ hest_line len (length sources.now) rest }
+    ensures text { result ≡ codes "hest " ++ decimal len ++ codes " sources " ++ decimal (length sources.now) ++ codes " rest " ++ decimal rest }
     ensures short { length result ≤ 255 }
 {
     let mut line = LineText::new();

@@ -1,6 +1,6 @@
 // Which lines of a checked item are shown.
 ghost use Rattle.std.specs.Prelude.{⊤, ◌≡◌, ◌==◌, [], ◌∷◌, codes};
-ghost use Rattle.apei_check.specs.Shown.{shows_head, shows_parts, shown_flags};
+ghost use Rattle.std.specs.Int.RustNames.{bit_and};
 
 use bitflags::{Flag, Flags, bitflag_items};
 
@@ -20,7 +20,7 @@ impl Flags for Show {
 
     ghost exact = { ⊤ };
 
-    ghost table = { shown_flags };
+    ghost table = { (codes "HEAD", 1) ∷ (codes "PARTS", 2) ∷ [] };
 
     ghost set_of = { λ show. show.0 };
 
@@ -40,14 +40,14 @@ impl Flags for Show {
 impl Show {
     /// Whether the line on the whole item is shown.
     pub fn head(self) -> bool
-        ensures { result ≡ shows_head self }
+        ensures { result ≡ (bit_and self.0 1 == 1) }
     {
         self.contains(Show::HEAD)
     }
 
     /// Whether the lines on its parts are shown.
     pub fn parts(self) -> bool
-        ensures { result ≡ shows_parts self }
+        ensures { result ≡ (bit_and self.0 2 == 2) }
     {
         self.contains(Show::PARTS)
     }

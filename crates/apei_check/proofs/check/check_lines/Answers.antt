@@ -1,15 +1,14 @@
 use Rattle.std.proofs.Common.{◌≡◌, true, false, Err, refl, sym, ap, ◌∙◌}
 use Rattle.script_lines.specs.Lines.{Reading}
-use Rattle.apei_check.proofs.TextLemmas.{writes_none}
 use Rattle.script_lines.proofs.EndLemmas.{source_cause, no_sink}
-use Rattle.apei_check.proofs.RunLemmas.{so_far_next, ends_none, ends_unwritten, ends_memory, ends_bad}
+use Rattle.apei_check.proofs.RunLemmas.{so_far_none, so_far_next, ends_none, ends_unwritten, ends_memory, ends_bad}
 use Rattle.apei_check.proofs.check.check_lines.Goals as goal
 
 pub lines-init : goal.lines-init
 lines-init g c =
     let start = c.requires.start in
     record {
-      so_far = rw start (record { lines = _; read = c.lines_are_read_in_order.ensures.start _; writes = writes_none _ c.args.show _ });
+      so_far = rw start (so_far_none _ _ c.args.show _ _ _ (c.lines_are_read_in_order.ensures.start _));
       at_end = λ told e. let clash : true ≡ false = sym e ∙ ap (λ (r : Reading). r.at_end) start in absurd (cc clash);
       room = c.requires.room;
       source = refl;
