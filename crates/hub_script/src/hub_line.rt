@@ -1,9 +1,9 @@
 // A line of a script of several error sources.
-ghost use Rattle.std.specs.Prelude.{◌+◌, ◌≤◌, length, MatchResult};
+ghost use Rattle.std.specs.Prelude.{◌+◌, ◌≤◌, length, MatchResult, ◌++◌};
 ghost use Rattle.script_lines.specs.Columns.{Breaks, BreaksAt};
 ghost use Rattle.script_lines.specs.declared.lengths.TheConstants.{LONGEST_LINE};
 ghost use Rattle.hub_script.specs.HubGrammar.{IsLine};
-ghost use Rattle.hub_script.specs.HubText.{IsText, IsTextBehind};
+ghost use Rattle.hub_script.specs.HubText.{IsText};
 ghost use Rattle.hub_script.specs.HubWords.{codes_of, Follows};
 
 use crate::parts::{number_and_pairs, turns};
@@ -93,7 +93,7 @@ impl HubLine<'_> {
 
     // The line of a keyword and what follows it.
     fn from_parts(word: HubWord, rest: &[u8]) -> Result<HubLine<'_>, usize>
-        ensures { MatchResult result (λ line. IsTextBehind word rest.now line)
+        ensures { MatchResult result (λ line. IsText (codes_of word ++ rest.now) line)
             (λ reach. Breaks (Follows word) rest.now reach) }
     {
         match word {
