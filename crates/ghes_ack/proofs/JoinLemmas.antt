@@ -17,7 +17,8 @@ use Rattle.ghes_ack.specs.declared.ends.ReaderEnd.TheVariants.{Looks, Reads, Ack
 use Rattle.ghes_ack.specs.Machine.{Machine, Situation, Filling, Published, Reading, Cleared, Acknowledged, Fits}
 use Rattle.ghes_ack.specs.Maps.{HasAckBits, ack_read, with_ack, acknowledged, IsSet, window, window_of}
 use Rattle.ghes_ack.specs.Handovers.{HandoverState, StandsFor, AreTurned, over}
-use Rattle.ghes_ack.specs.Sides.{Turns, looking_at, waiting_at, situation_of, state_of, handover_of, in_work, IsCopiedSoFar, IsFar, AreApart, IsConsistent}
+use Rattle.ghes_ack.specs.Sides.{Turns, waiting_at, situation_of, state_of, handover_of, in_work, IsCopiedSoFar, IsFar, AreApart, IsConsistent}
+use Rattle.ghes_ack.proofs.Terms.{looking_at}
 use Rattle.ghes_ack.proofs.Terms.{Runs}
 use Rattle.ghes_ack.specs.Sides.{Stands}
 use Rattle.ghes_ack.specs.OwnTurns.{IsAble, FirmwareMakes, Idles, Fills, Publishes, FirmwareRuns, ReaderMakes, Copies, Takes, Clears, GoesOn, ReaderRuns}

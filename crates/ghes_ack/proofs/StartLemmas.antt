@@ -23,7 +23,8 @@ use Rattle.ghes_ack.specs.declared.submission.SubmitError.{SubmitError}
 use Rattle.ghes_ack.specs.declared.submission.SubmitError.TheVariants.{Long, Trailing, Full}
 use Rattle.std.specs.VecDeque.{deque_len}
 use Rattle.ghes_ack.specs.declared.ends.Ends.{Ends}
-use Rattle.ghes_ack.specs.Sides.{AreConsistent, situation_in, state_of, view_of, in_work}
+use Rattle.ghes_ack.specs.Sides.{AreConsistent, state_of, view_of, in_work}
+use Rattle.ghes_ack.proofs.Terms.{situation_in}
 use Rattle.ghes_ack.proofs.StepLemmas.{start_is, submit_keeps}
 use Rattle.ghes_ack.proofs.ScheduleLemmas.{state_in_order}
 use Rattle.ghes_ack.proofs.MemoryLemmas.{length-window, window-with_window, address-with_window, address-with_ack, address-with_address, HasWindows-with_ack, HasWindows-with_address}

@@ -3,7 +3,7 @@ use Rattle.std.specs.Prelude.{Err, List, Ok, Result, [], ℕ, if◌then◌else�
 use Rattle.apei_space.specs.declared.faults.SpaceFault.{SpaceFault}
 use Rattle.base_model.specs.Bytes.{part, spelled}
 use Rattle.ghes_ack.specs.declared.events.Event.TheVariants.{Clear, Copied, Took, Idle}
-use Rattle.ghes_ack.specs.Machine.{Machine, filling, IsWhole, at_work}
+use Rattle.ghes_ack.specs.Machine.{Machine, filling, IsWhole, at_work, Acknowledged, Published, Situation, Filling}
 use Rattle.ghes_ack.specs.Pieces.{pieces, with_status, read_over as pieces_over}
 use Rattle.ghes_ack.specs.declared.events.Event.{Event}
 use Rattle.ghes_block.specs.declared.error.BlockError.{BlockError}
@@ -16,6 +16,8 @@ use Rattle.apei_space.specs.RamState.{RamState}
 use Rattle.ghes_ack.specs.declared.maps.HandoverMap.{HandoverMap}
 use Rattle.ghes_ack.specs.Maps.{window, AreLeft, memory_after}
 use Rattle.ghes_ack.specs.declared.events.Side.{Side}
+use Rattle.ghes_ack.specs.declared.ends.Ends.{Ends}
+use Rattle.ghes_ack.specs.Sides.{situation_of}
 
 abbrev pub bytes_in : Result ℕ SpaceFault → List ℕ → ℕ → List ℕ
 bytes_in found bytes n = elim found [ Ok start ↦ part bytes start n | Err fault ↦ [] ]
@@ -54,3 +56,9 @@ pub record Runs (side : Side) (events : List Event) (old new : WithMemory Handov
   pub map : new.state.map ≡ old.state.map
   pub memory_is : new.memory ≡ memory_after old.state.map (get_or events 0 Idle) old.memory (window old.state.map new.memory)
   pub left : AreLeft old.state.map events old.memory new.memory
+
+abbrev pub looking_at : Option (Vec ℕ Global) → Situation
+looking_at work = elim work [ None ↦ Acknowledged | Some block ↦ Published ]
+
+abbrev pub situation_in : Option Ends → Option (Vec ℕ Global) → Situation
+situation_in ends work = elim ends [ None ↦ Filling | Some both ↦ situation_of both.firmware both.reader work ]

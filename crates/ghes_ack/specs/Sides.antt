@@ -18,12 +18,8 @@ use Rattle.ghes_ack.specs.Handovers.{HandoverOver, HandoverState, WithMemory, St
 use Rattle.ghes_ack.specs.declared.maps.HandoverMap.{HandoverMap}
 
 -- while the firmware waits and the reader looks, there is a block at work until it is acknowledged
-abbrev pub looking_at : Option (Vec ℕ Global) → Situation
-looking_at None = Acknowledged
-looking_at (Some block) = Published
-
 abbrev pub waiting_at : ReaderEnd → Option (Vec ℕ Global) → Situation
-waiting_at (Looks look) work = looking_at work
+waiting_at (Looks look) work = elim work [ None ↦ Acknowledged | Some block ↦ Published ]
 waiting_at (Reads read) work = Reading
 waiting_at (Acknowledges end) work = Cleared
 
@@ -84,12 +80,8 @@ pub record IsConsistent (ends : Ends) (b : Blocks HandoverMap) : Type 0 where
   pub far : IsFar ends.reader b
 
 -- the two sides are always there between two calls
-abbrev pub situation_in : Option Ends → Option (Vec ℕ Global) → Situation
-situation_in None work = Filling
-situation_in (Some ends) work = situation_of ends.firmware ends.reader work
-
 abbrev pub view_of : {M : Type 0} → Option Ends → Blocks M → HandoverOver M
-view_of ends b = state_of (situation_in ends b.at_work) b
+view_of ends b = state_of (elim ends [ None ↦ Filling | Some both ↦ situation_of both.firmware both.reader b.at_work ]) b
 
 abbrev pub AreConsistent : Option Ends → Blocks HandoverMap → Type 0
 AreConsistent None b = ⊥

@@ -12,7 +12,8 @@ use Rattle.ghes_hub.specs.declared.plain.map.PlainMap.{PlainMap}
 use Rattle.ghes_ack.specs.declared.window_blocks.Blocks.{Blocks}
 use Rattle.ghes_ack.specs.WindowQueues.{TakesOut, HoldsNone, count_of}
 use Rattle.ghes_ack.specs.Windows.{block_bytes, HasAddressed, with_block}
-use Rattle.ghes_hub.specs.Plain.{plain_window_of, PlainState, PlainStands}
+use Rattle.ghes_hub.specs.Plain.{PlainState, PlainStands}
+use Rattle.ghes_hub.proofs.Terms.{plain_window_of}
 use Rattle.ghes_ack.specs.Handovers.{over}
 use Rattle.ghes_hub.specs.PlainSides.{Turns, with_next_piece, ReaderMakes, Copies, Takes, Clears}
 use Rattle.ghes_hub.proofs.Terms.{Stands}

@@ -15,7 +15,7 @@ use Rattle.ghes_ack.proofs.WindowLemmas.{length-status}
 use Rattle.ghes_ack.specs.Machine.{with_status}
 use Rattle.ghes_hub.specs.declared.plain.map.PlainMap.{PlainMap}
 use Rattle.ghes_ack.specs.Windows.{block_bytes, HasAddressed, with_block, with_address_at}
-use Rattle.ghes_hub.specs.Plain.{plain_window_of}
+use Rattle.ghes_hub.proofs.Terms.{plain_window_of}
 
 -- a memory whose window is written with what it holds
 pub unchanged : (map : PlainMap) (ram : RamState) → HasAddressed map.status map.window ram → ram ≡ with_block map.window ram (block_bytes map.window ram)

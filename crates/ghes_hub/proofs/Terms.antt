@@ -16,6 +16,7 @@ use Rattle.apei_space.specs.Mapped.{IsMapped}
 use Rattle.ghes_hub.specs.Places.{IsOff}
 use Rattle.apei_tables.specs.declared.registers.Place.{Place}
 use Rattle.apei_space.specs.declared.windows.Window.{Window}
+use Rattle.ghes_ack.specs.declared.window.BlockWindow.{BlockWindow}
 
 abbrev pub settled : Machine → Situation → Machine
 settled m situation = elim situation [
@@ -40,3 +41,6 @@ pub record AreJoined (ranges windows : List Window) : Type 0 where
   pub apart : AreApart windows
   pub off : (at : Place) (n : ℕ) → 0 < n → IsOff ranges at n → IsOff windows at n
   pub mapped : (at : Place) → IsMapped ranges at → IsMapped windows at
+
+abbrev pub plain_window_of : PlainMap → BlockWindow
+plain_window_of map = map.window

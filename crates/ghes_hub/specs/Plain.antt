@@ -4,13 +4,8 @@ use Rattle.base_model.specs.Bytes.{spelled}
 use Rattle.apei_space.specs.RamState.{RamState}
 use Rattle.ghes_ack.specs.Machine.{Machine, Cleared, IsState, waiting_in, last_taken, with_status}
 use Rattle.ghes_ack.specs.Handovers.{HandoverOver, kept}
-use Rattle.ghes_ack.specs.declared.window.BlockWindow.{BlockWindow}
 use Rattle.ghes_ack.specs.Windows.{HasAddressed, block_bytes, with_block, address_at, with_address_at}
 use Rattle.ghes_hub.specs.declared.plain.map.PlainMap.{PlainMap}
-
--- where the block's window lies
-abbrev pub plain_window_of : PlainMap → BlockWindow
-plain_window_of map = map.window
 
 abbrev pub plain_started : PlainMap → RamState → RamState
 plain_started map ram = with_block map.window (with_address_at map.status map.window ram) (with_status (block_bytes map.window ram) (spelled 4 0))

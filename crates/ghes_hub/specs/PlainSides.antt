@@ -7,6 +7,7 @@ use Rattle.ghes_ack.specs.declared.events.Side.TheVariants.{Firmware, Reader}
 use Rattle.ghes_ack.specs.declared.events.Event.{Event}
 use Rattle.ghes_ack.specs.declared.events.Event.TheVariants.{Free, Wait, Nothing, Found, Copied, Took, Clear}
 use Rattle.ghes_ack.specs.Machine.{Machine, Situation, Filling, Published, Reading, Cleared, Acknowledged, with_status}
+use Rattle.ghes_ack.specs.OwnTurns.{firmware_at, reader_at}
 use Rattle.ghes_ack.specs.Sides.{IsCopiedSoFar, AreApart, situation_of, state_of}
 use Rattle.ghes_ack.specs.declared.window_blocks.Blocks.{Blocks}
 use Rattle.ghes_ack.specs.WindowQueues.{HasRoom, count_of}
@@ -20,7 +21,7 @@ use Rattle.ghes_ack.specs.declared.ends.ReaderEnd.{ReaderEnd}
 use Rattle.ghes_ack.specs.declared.ends.ReaderEnd.TheVariants.{Looks, Reads, Acknowledges}
 use Rattle.ghes_hub.specs.Kinds.{ByStatus, turned_by}
 use Rattle.ghes_ack.specs.Windows.{block_bytes, HasAddressed, block_status, with_block}
-use Rattle.ghes_hub.specs.Plain.{PlainState, PlainStands, plain_window_of}
+use Rattle.ghes_hub.specs.Plain.{PlainState, PlainStands}
 
 -- the block at work in each situation
 abbrev pub IsUnderWay : Situation → Blocks PlainMap → Type 0
@@ -33,7 +34,7 @@ IsUnderWay Acknowledged b = b.at_work ≡ None
 -- the blocks are as they must be in a situation
 pub record IsSound (situation : Situation) (b : Blocks PlainMap) : Type 0 where
   pub short : b.map.window.len < 2 ^ 32
-  pub room : HasRoom plain_window_of 0 b
+  pub room : HasRoom (λ map. map.window) 0 b
   pub under_way : IsUnderWay situation b
 
 -- the sides and the blocks belong together
@@ -54,11 +55,6 @@ pub record Turns (side : Side) (event : Event) (old new : WithMemory PlainState)
   pub map : new.state.map ≡ old.state.map
   pub memory_is : new.memory ≡ with_block old.state.map.window old.memory (block_bytes old.state.map.window new.memory)
 
--- the situation that the firmware's end leaves, from one in which it wrote
-abbrev pub firmware_at : FirmwareEnd → Situation
-firmware_at (Writes write) = Filling
-firmware_at (Waits wait) = Published
-
 -- the firmware can make a turn
 abbrev pub FirmwareIsAble : FirmwareEnd → Blocks PlainMap → RamState → Type 0
 FirmwareIsAble (Writes write) b ram = IsSound Filling b × ((m : Machine) × PlainStands (state_of Filling b) ram m)
@@ -76,12 +72,6 @@ FirmwareTurns (Writes write) old event end new =
     → Turns Firmware event (over (state_of Filling old.state) old.memory) (over (state_of (firmware_at end) new.state) new.memory) m)
 FirmwareTurns (Waits wait) old event end new =
     FindsClear old.state.map old.memory event end × (new.state ≡ old.state) × (new.memory ≡ old.memory)
-
--- the situation that the reader's end leaves, from one in which it read
-abbrev pub reader_at : ReaderEnd → Situation
-reader_at (Looks look) = Acknowledged
-reader_at (Reads read) = Reading
-reader_at (Acknowledges end) = Cleared
 
 -- the reader can make a turn
 abbrev pub ReaderIsAble : ReaderEnd → Blocks PlainMap → RamState → Type 0

@@ -5,7 +5,8 @@ ghost use Rattle.ghes_ack.specs.Machine.{Machine, Filling};
 ghost use Rattle.ghes_ack.specs.Windows.{HasAddressed};
 ghost use Rattle.ghes_hub.specs.Plain.{PlainStands};
 ghost use Rattle.ghes_ack.specs.Handovers.{over};
-ghost use Rattle.ghes_hub.specs.PlainSides.{IsSound, Turns, FindsClear, FirmwareIsAble, FirmwareTurns, firmware_at};
+ghost use Rattle.ghes_hub.specs.PlainSides.{IsSound, Turns, FindsClear, FirmwareIsAble, FirmwareTurns};
+ghost use Rattle.ghes_ack.specs.OwnTurns.{firmware_at};
 ghost use Rattle.ghes_ack.specs.Sides.{state_of};
 
 use crate::plain::map::PlainMap;

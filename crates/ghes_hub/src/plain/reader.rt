@@ -3,7 +3,8 @@ ghost use Rattle.std.specs.Prelude.{◌*◌, ◌<◌, ◌≤◌, length, IfSome}
 ghost use Rattle.ghes_ack.specs.Machine.{Reading};
 ghost use Rattle.ghes_ack.specs.Windows.{HasAddressed};
 ghost use Rattle.ghes_ack.specs.Handovers.{over};
-ghost use Rattle.ghes_hub.specs.PlainSides.{IsSound, FindsBlock, ReaderMakes, ReaderIsAble, ReaderTurns, reader_at};
+ghost use Rattle.ghes_hub.specs.PlainSides.{IsSound, FindsBlock, ReaderMakes, ReaderIsAble, ReaderTurns};
+ghost use Rattle.ghes_ack.specs.OwnTurns.{reader_at};
 ghost use Rattle.ghes_ack.specs.Sides.{state_of};
 
 use crate::plain::map::PlainMap;
