@@ -19,6 +19,9 @@ use Rattle.ghes_ack.specs.declared.events.Side.{Side}
 use Rattle.ghes_ack.specs.declared.ends.Ends.{Ends}
 use Rattle.ghes_ack.specs.Sides.{situation_of}
 
+abbrev pub Turned : Type 0
+Turned = Event × Machine
+
 abbrev pub bytes_in : Result ℕ SpaceFault → List ℕ → ℕ → List ℕ
 bytes_in found bytes n = elim found [ Ok start ↦ part bytes start n | Err fault ↦ [] ]
 
@@ -33,9 +36,6 @@ offered m blocks = elim blocks [ [] ↦ (Idle, m) | block ∷ waiting ↦ fillin
 
 abbrev pub IsReading : Machine → Type 0
 IsReading m = ((m.copied < pieces (at_work m)) × IsWhole m 0) ⊎ ((m.copied ≡ pieces (at_work m)) × IsWhole m 1)
-
-abbrev pub Turned : Type 0
-Turned = Event × Machine
 
 -- why a block of so many bytes is refused, by what was checked of it
 abbrev pub reason : Result ℕ BlockError → ℕ → ℕ → Option SubmitError
