@@ -3,7 +3,7 @@ use Rattle.std.specs.Prelude.{Err, List, Ok, Result, [], ℕ, if◌then◌else�
 use Rattle.apei_space.specs.declared.faults.SpaceFault.{SpaceFault}
 use Rattle.base_model.specs.Bytes.{part, spelled}
 use Rattle.ghes_ack.specs.declared.events.Event.TheVariants.{Clear, Copied, Took, Idle}
-use Rattle.ghes_ack.specs.Machine.{Machine, filling, IsWhole, at_work, Acknowledged, Published, Situation, Filling}
+use Rattle.ghes_ack.specs.Machine.{Machine, filling, IsWhole, at_work, Acknowledged, Cleared, Published, Situation, Filling}
 use Rattle.ghes_ack.specs.Pieces.{pieces, with_status, read_over as pieces_over}
 use Rattle.ghes_ack.specs.declared.events.Event.{Event}
 use Rattle.ghes_block.specs.declared.error.BlockError.{BlockError}
