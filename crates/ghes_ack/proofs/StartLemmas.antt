@@ -17,6 +17,7 @@ use Rattle.ghes_ack.specs.WindowQueues.{IsEmpty, Adds}
 use Rattle.ghes_ack.specs.Machine.{Machine, Situation, Filling, Published, Reading, Cleared, Acknowledged, Fits, with_status, started, submitted, waiting_in, InSituation, IsState}
 use Rattle.ghes_ack.specs.Maps.{HasAckBits, HasWindows, ack_read, window, with_ack, with_address, memory_started, IsSet, ack_mask}
 use Rattle.ghes_ack.specs.Handovers.{HandoverState, fresh, StandsFor}
+use Rattle.ghes_ack.specs.Windows.{address_at}
 use Rattle.ghes_ack.proofs.Terms.{reason}
 use Rattle.ghes_ack.specs.Submissions.{refusal_of}
 use Rattle.ghes_ack.specs.declared.submission.SubmitError.{SubmitError}
