@@ -9,8 +9,7 @@ use Rattle.apei_space.specs.Windows.{EndsBelow, IsApart, IsApartFrom, AreApart, 
 use Rattle.apei_space.specs.Mapped.{Holds, IsMapped, AreDisjoint}
 use Rattle.ghes_ack.proofs.PlacedLemmas.{disjoint_sym}
 use Rattle.ghes_hub.specs.Places.{IsOff}
-use Rattle.ghes_hub.specs.Joins.{follows_at, follows, both, joins, AreFree, MayJoin}
-use Rattle.ghes_hub.proofs.Terms.{AreJoined}
+use Rattle.ghes_hub.specs.Joins.{follows_at, follows, both, joins, AreFree, MayJoin, AreJoined}
 
 -- what a test of one window behind another says
 abbrev Adjoins : Place → ℕ → Place → Type 0

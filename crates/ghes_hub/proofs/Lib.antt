@@ -1,4 +1,3 @@
-pub mod Terms
 pub mod KindLemmas
 pub mod RunLemmas
 pub mod SourceLemmas

@@ -4,6 +4,7 @@ use Rattle.apei_tables.specs.declared.registers.Place.{Place}
 use Rattle.apei_tables.specs.declared.registers.Place.TheVariants.{Memory, Io}
 use Rattle.apei_space.specs.declared.windows.Window.{Window}
 use Rattle.apei_space.specs.Windows.{EndsBelow, AreApart}
+use Rattle.apei_space.specs.Mapped.{IsMapped}
 use Rattle.ghes_hub.specs.Places.{IsOff}
 
 abbrev pub follows_at : Place → ℕ → Place → Bool
@@ -37,3 +38,9 @@ pub record MayJoin (windows : List Window) (new : Window) : Type 0 where
   pub apart : AreApart windows
   pub ends : EndsBelow new.place new.len
   pub off : IsOff windows new.place new.len
+
+-- windows that are apart hold the bytes of some ranges, and are off what is off those
+pub record AreJoined (ranges windows : List Window) : Type 0 where
+  pub apart : AreApart windows
+  pub off : (at : Place) (n : ℕ) → 0 < n → IsOff ranges at n → IsOff windows at n
+  pub mapped : (at : Place) → IsMapped ranges at → IsMapped windows at
