@@ -68,7 +68,8 @@ reader_at (Acknowledges end) = Cleared
 -- turns of a reader that may read the block: it copies the next pieces, the last of them too, or it clears the block status once it has them all
 pub data ReaderMakes (old : HandoverState) (ram : RamState) (events : List Event) (new : HandoverState) (memory : RamState) : Type 0 where
   Copies : (count : ℕ) (block : List ℕ) → old.at_work ≡ Some block → 64 * (old.copied + count) < length block → events ≡ replicate count Copied →
-      new ≡ record old { at_work = Some (pieces_over (window old.map ram) block old.copied count); copied = old.copied + count } → memory ≡ ram → ReaderMakes old ram events new memory
+      new ≡ record old { at_work = Some (pieces_over (window old.map ram) block old.copied count); copied = old.copied + count } →
+      memory ≡ ram → ReaderMakes old ram events new memory
   Takes : (count : ℕ) (block : List ℕ) → old.at_work ≡ Some block → 64 * (old.copied + count) < length block → length block ≤ 64 * (old.copied + suc count) →
       events ≡ replicate count Copied ++ Took ∷ [] →
       new ≡ record old {
