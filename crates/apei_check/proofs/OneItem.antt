@@ -11,7 +11,8 @@ use Rattle.ghes_block.proofs.Blocks.{found_again as block_found_again}
 use Rattle.ghes_block.proofs.Whole.{only_found as only_block_found, never_refused as block_never_refused}
 use Rattle.hest_sources.proofs.Hests.{same_table as same_hest, not_refused as hest_not_refused}
 use Rattle.ghes_block.specs.declared.table.Bert.{Bert}
-use Rattle.ghes_block.specs.Table.{IsBert, signature as bert_signature}
+use Rattle.ghes_block.specs.Table.{IsBert}
+use Rattle.ghes_block.proofs.Terms.{signature as bert_signature}
 use Rattle.ghes_block.proofs.TableLemmas.{only_from}
 use Rattle.apei_tables.specs.Tables.{refusal as table_refusal}
 use Rattle.apei_tables.proofs.Finding.{none_refused, size-front}

@@ -14,7 +14,8 @@ use Rattle.hest_sources.specs.declared.tables.HestError.{HestError}
 use Rattle.hest_sources.specs.declared.tables.HestError.TheVariants.{Table as hest_table, UnknownType as unknown, Cut as cut, Count as hest_count, Memory as hest_memory}
 use Rattle.hest_sources.specs.Tables.{IsHest, refusal as hest_refusal, IsRefusal as hest_is_refusal}
 use Rattle.ghes_block.specs.declared.table.Bert.{Bert}
-use Rattle.ghes_block.specs.Table.{IsBert, signature as bert_signature}
+use Rattle.ghes_block.specs.Table.{IsBert}
+use Rattle.ghes_block.proofs.Terms.{signature as bert_signature}
 use Rattle.script_text.specs.TableWords.{words_of_table, words_of_erst, words_of_hest, ErstHasWords, HestHasWords}
 use Rattle.apei_check.specs.TableLines.{entry_line, source_line}
 use Rattle.apei_check.specs.Tables.{AreErstLines, AreHestLines, AreBertLines}

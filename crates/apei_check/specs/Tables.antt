@@ -13,7 +13,7 @@ use Rattle.hest_sources.specs.declared.sources.HestSource.{HestSource}
 use Rattle.hest_sources.specs.declared.tables.HestError.{HestError}
 use Rattle.hest_sources.specs.Tables.{IsHest, refusal as hest_refusal}
 use Rattle.ghes_block.specs.declared.table.Bert.{Bert}
-use Rattle.ghes_block.specs.Table.{IsBert, signature as bert_signature}
+use Rattle.ghes_block.specs.Table.{IsBert}
 use Rattle.script_text.specs.TableWords.{words_of_table, words_of_erst, words_of_hest}
 
 -- an Error Record Serialization Table: its bytes and entries, and the bytes behind it, with a line for each of its instruction entries
@@ -37,4 +37,4 @@ AreBertLines show bytes lines =
     ItemShown {X = Bert} IsBert
     (λ bert size rest. codes "bert " ++ decimal size ++ codes " region " ++ decimal bert.region ++ codes " bytes " ++ decimal bert.len ++ codes " rest "
     ++ decimal rest) (λ bert. []) show bytes lines
-    ⊎ ItemRefused {E = TableError} (λ found why. table_refusal bert_signature 48 found ≡ Some why) (codes "bad bert ") words_of_table bytes lines
+    ⊎ ItemRefused {E = TableError} (λ found why. table_refusal (codes "BERT") 48 found ≡ Some why) (codes "bad bert ") words_of_table bytes lines

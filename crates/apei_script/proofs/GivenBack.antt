@@ -6,7 +6,8 @@ use Rattle.ghes_ack.specs.declared.events.Side.TheVariants.{Firmware, Reader}
 use Rattle.ghes_ack.specs.declared.events.Event.{Event as TurnEvent}
 use Rattle.ghes_ack.specs.declared.events.Event.TheVariants.{Clear, Ack}
 use Rattle.ghes_ack.specs.declared.submission.SubmitError.{SubmitError}
-use Rattle.ghes_ack.specs.Machine.{Machine, Situation, Filling, Published, Reading, Cleared, Acknowledged, Turned, last_taken, turned, reader_turn}
+use Rattle.ghes_ack.specs.Machine.{Machine, Situation, Filling, Published, Reading, Cleared, Acknowledged, last_taken, turned, reader_turn}
+use Rattle.ghes_ack.proofs.Terms.{Turned}
 use Rattle.ghes_ack.specs.Handovers.{HandoverState}
 use Rattle.erst_client.specs.Commands.{ClientState}
 use Rattle.erst_machine.specs.MachineState.{MachineState, IsMachine}

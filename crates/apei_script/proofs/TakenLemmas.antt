@@ -5,7 +5,9 @@ use Rattle.ghes_ack.specs.declared.events.Side.{Side}
 use Rattle.ghes_ack.specs.declared.events.Side.TheVariants.{Firmware, Reader}
 use Rattle.ghes_ack.specs.declared.events.Event.{Event}
 use Rattle.ghes_ack.specs.declared.events.Event.TheVariants.{Fill, Publish, Took}
-use Rattle.ghes_ack.specs.Machine.{Machine, Situation, Filling, Published, Reading, Cleared, Acknowledged, Turned, turned, offered, firmware_turn, pieces, with_piece, with_status, last_taken, Fits, IsState}
+use Rattle.ghes_ack.specs.Machine.{Machine, Situation, Filling, Published, Reading, Cleared, Acknowledged, turned, firmware_turn, pieces, with_piece, with_status, last_taken, Fits, IsState}
+use Rattle.ghes_ack.proofs.Terms.{Turned}
+use Rattle.ghes_ack.proofs.Terms.{offered}
 use Rattle.erst_machine.specs.MachineState.{MachineState, IsMachine}
 use Rattle.erst_machine.specs.Events.{Turns}
 

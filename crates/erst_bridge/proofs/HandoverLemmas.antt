@@ -3,7 +3,10 @@ use Rattle.std.proofs.Common.{◌≡◌, ◌∙◌, ℕ, suc, ◌+◌, ◌<◌, 
 use Rattle.std.specs.Prelude.{nat_lt, if◌then◌else◌}
 use Rattle.std.proofs.Math.Seq.{drop-cons}
 use Rattle.ghes_ack.specs.declared.events.Side.TheVariants.{Firmware, Reader}
-use Rattle.ghes_ack.specs.Machine.{Machine, Situation, Filling, Published, Reading, Cleared, Acknowledged, Turned, pieces, last_taken, offered, turned, firmware_turn, reader_turn, InSituation, IsState, IsReading}
+use Rattle.ghes_ack.specs.Machine.{Machine, Situation, Filling, Published, Reading, Cleared, Acknowledged, pieces, last_taken, turned, firmware_turn, reader_turn, InSituation, IsState}
+use Rattle.ghes_ack.proofs.Terms.{Turned}
+use Rattle.ghes_ack.proofs.Terms.{IsReading}
+use Rattle.ghes_ack.proofs.Terms.{offered}
 use Rattle.erst_bridge.specs.Bridges.{BridgeState, Off, Awaits, Holds, Releases, HoldsNone, after_reader}
 use Rattle.erst_bridge.specs.InStep.{IsInStep}
 use Rattle.erst_bridge.proofs.InStepLemmas.{reading_cases, not_taken}

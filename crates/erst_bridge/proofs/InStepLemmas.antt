@@ -5,7 +5,9 @@ use Rattle.std.proofs.lemmas.Bool.Decides.{nat_tests}
 use Rattle.base_model.specs.Bytes.{spelled}
 use Rattle.ghes_ack.specs.declared.events.Side.TheVariants.{Reader}
 use Rattle.ghes_ack.specs.declared.events.Event.TheVariants.{Took, Clear, Copied}
-use Rattle.ghes_ack.specs.Machine.{Machine, Situation, Filling, Published, Reading, Cleared, Acknowledged, Turned, at_work, pieces, last_taken, with_status, turned, reader_turn, InSituation, IsState, IsReading}
+use Rattle.ghes_ack.specs.Machine.{Machine, Situation, Filling, Published, Reading, Cleared, Acknowledged, at_work, pieces, last_taken, with_status, turned, reader_turn, InSituation, IsState}
+use Rattle.ghes_ack.proofs.Terms.{Turned}
+use Rattle.ghes_ack.proofs.Terms.{IsReading}
 use Rattle.erst_bridge.specs.declared.events.BridgeEvent.TheVariants.{Line}
 use Rattle.erst_bridge.specs.Bridges.{BridgeState, Off, Awaits, Holds, Releases, HoldsNone, after_reader}
 use Rattle.erst_bridge.specs.InStep.{IsInStep, IsInOrder}

@@ -14,7 +14,7 @@ use Rattle.ghes_ack.specs.declared.events.Event.{Event as TurnEvent}
 use Rattle.ghes_ack.specs.declared.submission.SubmitError.{SubmitError}
 use Rattle.ghes_ack.specs.Machine.{Machine as HandoverMachine, Situation, turned}
 use Rattle.ghes_ack.specs.Maps.{window, memory_started, memory_after}
-use Rattle.ghes_ack.specs.Handovers.{HandoverState, StandsFor, fresh, refusal}
+use Rattle.ghes_ack.specs.Handovers.{HandoverState, StandsFor, fresh}
 use Rattle.ghes_block.specs.Region.{IsLaidOut}
 use Rattle.erst_device.specs.declared.status.CommandStatus.TheVariants.{Success}
 use Rattle.erst_device.specs.DeviceState.{KnowsCopies}
@@ -27,6 +27,7 @@ use Rattle.erst_machine.specs.Events.{Restarts, Warms, Powers, Submits, Turns, L
 use Rattle.erst_commands.specs.Equivalence.{StoreOutline, DeviceOutline, MachineOutline, unplaced, store_outline, device_outline, machine_outline, EquivalentMachines, FailsNothing, FailedNothing, asked_event, answered_event}
 use Rattle.erst_commands.proofs.StoreOutlines.{looked, same_outline, only_looked, no_copies}
 use Rattle.erst_commands.proofs.MachineOutlines.{same_machine, answer_alike}
+use Rattle.ghes_ack.specs.Submissions.{refusal_of}
 
 -- Restarts
 
@@ -112,11 +113,11 @@ module _ (one other : MachineState) (equivalent : EquivalentMachines one other) 
       ap machine_outline first.added ∙ ap (λ (o : MachineOutline). record o { handover = record o.handover { waiting = o.handover.waiting ++ block ∷ [] } }) equivalent ∙ sym (ap machine_outline second.added) in
       (ap (λ (i : ℕ). Ok i) (first.number ∙ ap (λ (o : MachineOutline). length o.handover.waiting) after ∙ sym second.number), after)
   submits_alike block (Ok n) (Err error) one_after other_after first second =
-      absurd (none-some error (sym first.exact ∙ ap (λ (o : MachineOutline). refusal o.handover block) equivalent ∙ second.exact))
+      absurd (none-some error (sym first.exact ∙ ap (λ (o : MachineOutline). refusal_of o.handover.map.len block (length o.handover.waiting)) equivalent ∙ second.exact))
   submits_alike block (Err error) (Ok n) one_after other_after first second =
-      absurd (none-some error (sym second.exact ∙ sym (ap (λ (o : MachineOutline). refusal o.handover block) equivalent) ∙ first.exact))
+      absurd (none-some error (sym second.exact ∙ sym (ap (λ (o : MachineOutline). refusal_of o.handover.map.len block (length o.handover.waiting)) equivalent) ∙ first.exact))
   submits_alike block (Err error) (Err why) one_after other_after first second = (
-    ap (λ (e : SubmitError). Err e) (same_Some error why (sym first.exact ∙ ap (λ (o : MachineOutline). refusal o.handover block) equivalent ∙ second.exact)),
+    ap (λ (e : SubmitError). Err e) (same_Some error why (sym first.exact ∙ ap (λ (o : MachineOutline). refusal_of o.handover.map.len block (length o.handover.waiting)) equivalent ∙ second.exact)),
     ap machine_outline first.refused ∙ equivalent ∙ sym (ap machine_outline second.refused),
   )
 

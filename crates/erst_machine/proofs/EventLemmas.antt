@@ -1,6 +1,6 @@
 -- What happens to a machine keeps it one.
 use Rattle.std.proofs.Common.{◌≡◌, ℕ, ◌+◌, ◌-◌, ◌≤◌, Bool, true, false, List, [], ◌∷◌, ◌++◌, length, Some, None, Result, Ok, Err, refl, sym, ap, subst, ◌∙◌, arith}
-use Rattle.std.specs.Prelude.{if◌then◌else◌}
+use Rattle.std.specs.Prelude.{if◌then◌else◌, bit_or}
 use Rattle.std.proofs.lemmas.Bool.Decides.{nat_tests}
 use Rattle.std.proofs.lemmas.List.{length-replicate, length-append}
 use Rattle.base_model.specs.Bytes.{joined}
@@ -19,7 +19,7 @@ use Rattle.ghes_ack.specs.declared.events.Side.{Side}
 use Rattle.ghes_ack.specs.declared.events.Event.{Event as TurnEvent}
 use Rattle.ghes_ack.specs.declared.events.Event.TheVariants as turns
 use Rattle.ghes_ack.specs.Machine.{turned, submitted, with_status}
-use Rattle.ghes_ack.specs.Maps.{window, memory_started, memory_after, with_window, with_ack, with_address, with_set, with_clear, acknowledged, ack_read, ack_bytes}
+use Rattle.ghes_ack.specs.Maps.{window, memory_started, memory_after, with_window, with_ack, with_address, with_clear, acknowledged, ack_read, ack_bytes, ack_mask}
 use Rattle.ghes_ack.specs.Handovers.{HandoverState, StandsFor}
 use Rattle.ghes_block.specs.Region.{IsLaidOut, zeros as left_zeros}
 use Rattle.erst_device.specs.DeviceState.{DeviceState}
@@ -44,8 +44,8 @@ ack_windows map ram value = stored_windows (located ram.windows map.ack.place (a
 
 started_windows : (map : HandoverMap) (ram : RamState) → (memory_started map ram).windows ≡ ram.windows
 started_windows map ram =
-    window_windows map (with_ack map (with_address map ram) (with_set map (ack_read map ram))) (with_status (window map ram) (spelled 4 0))
-    ∙ ack_windows map (with_address map ram) (with_set map (ack_read map ram))
+    window_windows map (with_ack map (with_address map ram) (bit_or (ack_read map ram) (ack_mask map))) (with_status (window map ram) (spelled 4 0))
+    ∙ ack_windows map (with_address map ram) (bit_or (ack_read map ram) (ack_mask map))
     ∙ stored_windows (located ram.windows (Memory map.status) 8) ram (spelled 8 map.block)
 
 after_windows : (map : HandoverMap) (event : TurnEvent) (ram : RamState) (bytes : List ℕ) → (memory_after map event ram bytes).windows ≡ ram.windows

@@ -16,8 +16,7 @@ use Rattle.ghes_ack.specs.declared.events.Event.{Event as TurnEvent}
 use Rattle.ghes_ack.specs.declared.submission.SubmitError.{SubmitError}
 use Rattle.ghes_ack.specs.Machine.{Machine as HandoverMachine, started, submitted}
 use Rattle.ghes_ack.specs.Maps.{window, memory_started, memory_after}
-use Rattle.ghes_ack.specs.Handovers.{StandsFor, IsTurned, fresh, refusal}
-use Rattle.ghes_ack.specs.Sides.{Stands}
+use Rattle.ghes_ack.specs.Handovers.{StandsFor, IsTurned, fresh}
 use Rattle.ghes_block.specs.Region.{IsLaidOut}
 use Rattle.erst_device.specs.DeviceState.{at_first, KnowsCopies}
 use Rattle.erst_machine.specs.declared.errors.BootError.{BootError}
@@ -27,6 +26,8 @@ use Rattle.erst_machine.specs.declared.errors.FatalError.TheVariants.{Long, Malf
 use Rattle.erst_machine.specs.Memories.{MemoryState, cleared}
 use Rattle.erst_machine.specs.MachineState.{MachineState, records_of}
 use Rattle.erst_machine.specs.Allowed.{Allows}
+use Rattle.ghes_ack.specs.Submissions.{refusal_of}
+use Rattle.ghes_ack.specs.Sides.{Stands}
 
 -- the answer of a restart as that of its store
 abbrev pub store_answer : Result ℕ BootError → Result ℕ StoreError
@@ -66,7 +67,9 @@ pub record Powers (tells : Type 0) (old : MachineState) (result : Result ℕ Boo
 
 -- a block is given to the handover, or refused
 pub record Submits (old : MachineState) (block : List ℕ) (result : Result ℕ SubmitError) (new : MachineState) : Type 0 where
-  pub exact : MatchResult result (λ _. refusal old.handover block ≡ None) (λ error. refusal old.handover block ≡ Some error)
+  pub exact :
+      let refused = refusal_of old.handover.map.len block (length old.handover.waiting) in
+      MatchResult result (λ _. refused ≡ None) (λ error. refused ≡ Some error)
   pub added : OnOk result (new ≡ record old { handover = record old.handover { waiting = old.handover.waiting ++ block ∷ [] } })
   pub number : IfOk result (λ n. n ≡ length new.handover.waiting)
   pub stands : OnOk result ((ram : RamState) (m : HandoverMachine) → StandsFor old.handover ram m → StandsFor new.handover ram (submitted m block))

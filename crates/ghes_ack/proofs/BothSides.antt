@@ -8,19 +8,24 @@ use Rattle.ghes_ack.specs.declared.events.Event.TheVariants.{Idle}
 use Rattle.ghes_ack.specs.declared.ends.Ends.{Ends}
 use Rattle.ghes_ack.specs.declared.ends.FirmwareEnd.{FirmwareEnd}
 use Rattle.ghes_ack.specs.declared.ends.ReaderEnd.{ReaderEnd}
-use Rattle.ghes_ack.specs.Queues.{Blocks, HasRoom}
 use Rattle.ghes_ack.specs.Machine.{Machine}
 use Rattle.ghes_ack.specs.Handovers.{HandoverState, StandsFor, over}
-use Rattle.ghes_ack.specs.Sides.{Turns, Runs, Stands, handover_of, view_of, IsConsistent, AreConsistent}
+use Rattle.ghes_ack.specs.Sides.{Turns, handover_of, view_of, IsConsistent, AreConsistent}
+use Rattle.ghes_ack.proofs.Terms.{Runs}
+use Rattle.ghes_ack.specs.Sides.{Stands}
 use Rattle.ghes_ack.specs.OwnTurns.{SideIsAble, SideRuns}
 use Rattle.ghes_ack.proofs.JoinLemmas.{SideDone, able, firmware_done, reader_done}
+use Rattle.ghes_ack.specs.Maps.{window_of}
+use Rattle.ghes_ack.specs.WindowQueues.{HasRoom}
+use Rattle.ghes_ack.specs.declared.maps.HandoverMap.{HandoverMap}
+use Rattle.ghes_ack.specs.declared.window_blocks.Blocks.{Blocks}
 
-pub side_able : (side : Side) (ends : Ends) (b : Blocks) (ram : RamState) → IsConsistent ends b → Stands (handover_of ends b) ram → SideIsAble side ends b ram
+pub side_able : (side : Side) (ends : Ends) (b : Blocks HandoverMap) (ram : RamState) → IsConsistent ends b → Stands (handover_of ends b) ram → SideIsAble side ends b ram
 side_able Firmware ends b ram all stands = able ends b ram all stands
 side_able Reader ends b ram all stands = (able ends b ram all stands, all.far)
 
 -- whichever side it was, the other one is where it was
-pub side_done : (side : Side) (ends next : Ends) (b new : Blocks) (ram memory : RamState) (events : List Event) → IsConsistent ends b → HasRoom 0 new → Stands (handover_of ends b) ram → SideRuns side ends (over b ram) events next (over new memory) →
+pub side_done : (side : Side) (ends next : Ends) (b new : Blocks HandoverMap) (ram memory : RamState) (events : List Event) → IsConsistent ends b → HasRoom window_of 0 new → Stands (handover_of ends b) ram → SideRuns side ends (over b ram) events next (over new memory) →
     SideDone side events ends next b new ram memory
 side_done Firmware ends next b new ram memory events all room stands (runs, same) =
     subst (λ (reader : ReaderEnd). SideDone Firmware events ends (record { firmware = next.firmware; reader = reader }) b new ram memory) (sym same)
@@ -38,7 +43,7 @@ turn_of_one side event h after ram memory m run = record {
 }
 
 -- a turn of one piece, of a handover whose sides stay in their place
-module _ (side : Side) (place : Option Ends) (ends : Ends) (b : Blocks) (h : HandoverState) (ram : RamState) (is : place ≡ Some ends) (all : AreConsistent place b) (seen : view_of place b ≡ h) (stands : Stands h ram) where
+module _ (side : Side) (place : Option Ends) (ends : Ends) (b : Blocks HandoverMap) (h : HandoverState) (ram : RamState) (is : place ≡ Some ends) (all : AreConsistent place b) (seen : view_of place b ≡ h) (stands : Stands h ram) where
   at_hand : IsConsistent ends b
   at_hand = subst (λ (o : Option Ends). AreConsistent o b) is all
 
@@ -51,7 +56,7 @@ module _ (side : Side) (place : Option Ends) (ends : Ends) (b : Blocks) (h : Han
   pub able_in_place : SideIsAble side ends b ram
   able_in_place = side_able side ends b ram at_hand (stands.0, stands_so stands.0 stands.1)
 
-  module _ (new : Blocks) (memory : RamState) (room : HasRoom 0 new) where
+  module _ (new : Blocks HandoverMap) (memory : RamState) (room : HasRoom window_of 0 new) where
     done : (event : Event) → SideRuns side ends (over b ram) (event ∷ []) ends (over new memory) → SideDone side (event ∷ []) ends ends b new ram memory
     done event runs = side_done side ends ends b new ram memory (event ∷ []) at_hand room (stands.0, stands_so stands.0 stands.1) runs
 

@@ -8,11 +8,12 @@ use Rattle.base_model.proofs.BytesLemmas.{length-spelled, spelled-number_at}
 use Rattle.apei_space.specs.RamState.{RamState, Allows, located}
 use Rattle.ghes_ack.specs.declared.maps.HandoverMap.{HandoverMap}
 use Rattle.ghes_ack.specs.Machine.{with_status}
-use Rattle.ghes_ack.specs.Maps.{HasWindows, IsSet, IsClear, ack_bytes, ack_read, ack_mask, with_ack, with_window, with_address, window, window_of, with_set, with_clear, memory_started}
+use Rattle.ghes_ack.specs.Maps.{HasWindows, IsSet, IsClear, ack_bytes, ack_read, ack_mask, with_ack, with_window, with_address, window, window_of, with_clear, memory_started}
 use Rattle.ghes_ack.specs.Publications.{ClearsThenShows}
 use Rattle.ghes_ack.proofs.PieceLemmas.{part-front}
 use Rattle.ghes_ack.proofs.WindowLemmas.{status_write_is, length-status as length-status_in}
 use Rattle.ghes_ack.proofs.MemoryLemmas.{has_block, number_read, number_small, clear_bits, window-with_ack, window-with_address, ack-with_window, ack-with_address, HasWindows-with_window, HasWindows-with_ack, HasWindows-with_address}
+use Rattle.std.specs.Prelude.{bit_or}
 
 pub windows_address : (map : HandoverMap) (ram new : RamState) → new ≡ with_address map ram → HasWindows map ram → HasWindows map new
 windows_address map ram new is w = subst (HasWindows map) (sym is) (HasWindows-with_address map ram w)
@@ -27,21 +28,21 @@ pub length-status : (map : HandoverMap) (ram : RamState) (word : List ℕ) → l
 length-status map ram word four w = length-status_in (window_of map) ram word four (has_block map ram w)
 
 -- a start
-pub started_memory : (map : HandoverMap) (ram a b new : RamState) → HasWindows map ram → a ≡ with_address map ram → b ≡ with_ack map a (with_set map (ack_read map a)) →
+pub started_memory : (map : HandoverMap) (ram a b new : RamState) → HasWindows map ram → a ≡ with_address map ram → b ≡ with_ack map a (bit_or (ack_read map a) (ack_mask map)) →
     new ≡ with_window map b (with_status (window map b) (spelled 4 0)) → new ≡ memory_started map ram
 started_memory map ram a b new w is_a is_b is =
     let w_a = windows_address map ram a is_a w in
-    let same : window map b ≡ window map ram = ap (window map) is_b ∙ window-with_ack map a (with_set map (ack_read map a)) w_a ∙ ap (window map) is_a ∙ window-with_address map ram w in
+    let same : window map b ≡ window map ram = ap (window map) is_b ∙ window-with_ack map a (bit_or (ack_read map a) (ack_mask map)) w_a ∙ ap (window map) is_a ∙ window-with_address map ram w in
     let read : ack_read map a ≡ ack_read map ram = ap (ack_read map) is_a ∙ ack-with_address map ram w in
     is
     ∙ ap (λ (bytes : List ℕ). with_window map b (with_status bytes (spelled 4 0))) same
     ∙ ap (λ (r : RamState). with_window map r (with_status (window map ram) (spelled 4 0)))
-    (is_b ∙ ap (λ (x : ℕ). with_ack map a (with_set map x)) read ∙ ap (λ (r : RamState). with_ack map r (with_set map (ack_read map ram))) is_a)
+    (is_b ∙ ap (λ (x : ℕ). with_ack map a (bit_or x (ack_mask map))) read ∙ ap (λ (r : RamState). with_ack map r (bit_or (ack_read map ram) (ack_mask map))) is_a)
 
-pub started_set : (map : HandoverMap) (ram a b new : RamState) → HasWindows map ram → a ≡ with_address map ram → b ≡ with_ack map a (with_set map (ack_read map a)) →
+pub started_set : (map : HandoverMap) (ram a b new : RamState) → HasWindows map ram → a ≡ with_address map ram → b ≡ with_ack map a (bit_or (ack_read map a) (ack_mask map)) →
     new ≡ with_window map b (with_status (window map b) (spelled 4 0)) → IsSet map b → IsSet map new
 started_set map ram a b new w is_a is_b is set =
-    let w_b = windows_ack map a b (with_set map (ack_read map a)) is_b (windows_address map ram a is_a w) in
+    let w_b = windows_ack map a b (bit_or (ack_read map a) (ack_mask map)) is_b (windows_address map ram a is_a w) in
     let n = length-status map b (spelled 4 0) (length-spelled 4 0) w_b in
     let e : ack_read map new ≡ ack_read map b = ap (ack_read map) is ∙ ack-with_window map b (with_status (window map b) (spelled 4 0)) w_b n in
     subst (λ (r : ℕ). bit_and r (ack_mask map) ≡ ack_mask map) (sym e) set

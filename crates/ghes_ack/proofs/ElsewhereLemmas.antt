@@ -13,11 +13,13 @@ use Rattle.ghes_ack.specs.declared.maps.HandoverMap.{HandoverMap}
 use Rattle.ghes_ack.specs.declared.events.Event.{Event}
 use Rattle.ghes_ack.specs.declared.events.Event.TheVariants.{Idle, Fill, Publish, Free, Wait, Nothing, Found, Copied, Took, Clear, Ack}
 use Rattle.ghes_ack.specs.Machine.{with_status}
-use Rattle.ghes_ack.specs.Maps.{HasWindows, ack_bytes, bytes_in, bytes_at, window, ack_read, with_window, with_ack, with_address, with_set, with_clear, acknowledged, memory_started, memory_after}
+use Rattle.ghes_ack.specs.Maps.{HasWindows, ack_bytes, bytes_at, window, ack_read, with_window, with_ack, with_address, with_clear, acknowledged, memory_started, memory_after, ack_mask}
+use Rattle.ghes_ack.proofs.Terms.{bytes_in}
 use Rattle.ghes_ack.specs.Elsewhere.{IsOffBlock, IsOffMap, SameWhere}
 use Rattle.ghes_ack.proofs.PlacedLemmas.{fits_in, stored_placed, bytes-stored_apart, disjoint_sym}
 use Rattle.ghes_ack.proofs.MemoryLemmas.{ack_some, block_some, block_placed, ack_placed, status_placed, length-window, HasWindows-with_ack, HasWindows-with_address}
 use Rattle.ghes_ack.proofs.EffectLemmas.{length-status}
+use Rattle.std.specs.Prelude.{bit_or}
 
 pub SameWhere-refl : (is_far : Place → ℕ → Type 0) (ram : RamState) → SameWhere is_far ram ram
 SameWhere-refl is_far ram = record { windows = refl; size = refl; waited = refl; bytes = λ at n far. refl }
@@ -80,7 +82,7 @@ of_address is_far map ram w apart = let a = status_placed map ram w in SameWhere
 pub elsewhere_started : (map : HandoverMap) (ram : RamState) → HasWindows map ram → SameWhere (IsOffMap map) ram (memory_started map ram)
 elsewhere_started map ram w =
     let a : RamState = with_address map ram in
-    let x : ℕ = with_set map (ack_read map ram) in
+    let x : ℕ = bit_or (ack_read map ram) (ack_mask map) in
     let b : RamState = with_ack map a x in
     let w_a = HasWindows-with_address map ram w in
     let w_b = HasWindows-with_ack map a x w_a in

@@ -14,15 +14,21 @@ use Rattle.ghes_ack.specs.declared.ends.FirmwareEnd.{FirmwareEnd}
 use Rattle.ghes_ack.specs.declared.ends.FirmwareEnd.TheVariants.{Writes, Waits}
 use Rattle.ghes_ack.specs.declared.ends.ReaderEnd.{ReaderEnd}
 use Rattle.ghes_ack.specs.declared.ends.ReaderEnd.TheVariants.{Looks, Reads, Acknowledges}
-use Rattle.ghes_ack.specs.Queues.{Blocks, HasRoom}
 use Rattle.ghes_ack.specs.Machine.{Machine, Situation, Filling, Published, Reading, Cleared, Acknowledged, Fits}
-use Rattle.ghes_ack.specs.Maps.{HasAckBits, status_word, ack_read, with_ack, acknowledged, IsSet}
+use Rattle.ghes_ack.specs.Maps.{HasAckBits, ack_read, with_ack, acknowledged, IsSet, window, window_of}
 use Rattle.ghes_ack.specs.Handovers.{HandoverState, StandsFor, AreTurned, over}
-use Rattle.ghes_ack.specs.Sides.{Turns, Runs, Stands, looking_at, waiting_at, situation_of, state_of, handover_of, in_work, IsCopiedSoFar, IsFar, AreApart, IsConsistent}
-use Rattle.ghes_ack.specs.OwnTurns.{IsAble, FirmwareMakes, Idles, Fills, Publishes, FirmwareRuns, read_over, ReaderMakes, Copies, Takes, Clears, GoesOn, ReaderRuns}
+use Rattle.ghes_ack.specs.Sides.{Turns, waiting_at, situation_of, state_of, handover_of, in_work, IsCopiedSoFar, IsFar, AreApart, IsConsistent}
+use Rattle.ghes_ack.proofs.Terms.{looking_at}
+use Rattle.ghes_ack.proofs.Terms.{Runs}
+use Rattle.ghes_ack.specs.Sides.{Stands}
+use Rattle.ghes_ack.specs.OwnTurns.{IsAble, FirmwareMakes, Idles, Fills, Publishes, FirmwareRuns, ReaderMakes, Copies, Takes, Clears, GoesOn, ReaderRuns}
+use Rattle.ghes_ack.proofs.Terms.{read_over}
 use Rattle.ghes_ack.proofs.TurnLemmas.{idles, publishes, waits, frees, finds, finds_nothing, some_status, no_status, acks_in, set_and_clear, work_fits, copies_over, clears, acknowledges}
 use Rattle.ghes_ack.proofs.RunLemmas.{run_one, fills_run, copies_run, takes_run, copied_memory, copied_left, taken_memory, taken_left}
 use Rattle.ghes_ack.proofs.SideLemmas.{none_copied}
+use Rattle.base_model.specs.Bytes.{number_at}
+use Rattle.ghes_ack.specs.WindowQueues.{HasRoom}
+use Rattle.ghes_ack.specs.declared.window_blocks.Blocks.{Blocks}
 
 -- a run, by what its events, its last state and its memory are
 runs_as : (side : Side) (h : HandoverState) (ram : RamState) (m : Machine) (events others : List Event) (new after : HandoverState) (memory left : RamState) → events ≡ others → new ≡ after → memory ≡ left →
@@ -98,14 +104,14 @@ waits_by h ram m Cleared is unset st = waits h ram m (inr (inr is)) st
 waits_by h ram m Acknowledged is unset st = absurd (unset (acks_in h ram m Acknowledged is st))
 
 -- the block at work is free
-frees_at : (b : Blocks) (ram : RamState) → b.at_work ≡ None → (m : Machine) → StandsFor (state_of Acknowledged b) ram m → Turns Firmware Free (over (state_of Acknowledged b) ram) (over (state_of Filling b) ram) m
+frees_at : (b : Blocks HandoverMap) (ram : RamState) → b.at_work ≡ None → (m : Machine) → StandsFor (state_of Acknowledged b) ram m → Turns Firmware Free (over (state_of Acknowledged b) ram) (over (state_of Filling b) ram) m
 frees_at b ram none m st =
     let h = state_of Acknowledged b in
     let same : in_work Acknowledged b.at_work b.last ≡ in_work Filling b.at_work b.last =
     ap (λ (o : Option (Vec ℕ Global)). in_work Acknowledged o b.last) none ∙ sym (ap (λ (o : Option (Vec ℕ Global)). in_work Filling o b.last) none) in
     subst (λ (o : Option (List ℕ)). Turns Firmware Free (over h ram) (over (record h { situation = Filling; at_work = o }) ram) m) same (frees h ram m refl st)
 
-acknowledges_at : (b : Blocks) (ram new : RamState) → b.at_work ≡ None → new ≡ with_ack b.map ram (acknowledged b.map (ack_read b.map ram)) → IsSet b.map new →
+acknowledges_at : (b : Blocks HandoverMap) (ram new : RamState) → b.at_work ≡ None → new ≡ with_ack b.map ram (acknowledged b.map (ack_read b.map ram)) → IsSet b.map new →
     (m : Machine) → StandsFor (state_of Cleared b) ram m → Turns Reader Ack (over (state_of Cleared b) ram) (over (state_of Acknowledged b) new) m
 acknowledges_at b ram new none memory set m st =
     let h = state_of Cleared b in
@@ -115,7 +121,7 @@ acknowledges_at b ram new none memory set m st =
     (acknowledges h ram new m b.last.items refl last memory set st)
 
 -- where the acknowledge bits are set while the firmware waits, the reader looks, and no block is at work
-returned : (wait write : FirmwareEnd) (reader : ReaderEnd) (b : Blocks) (ram : RamState) (work : Option (Vec ℕ Global)) → b.at_work ≡ work → HasAckBits b.map → IsSet b.map ram → (m : Machine) → StandsFor (state_of (waiting_at reader work) b) ram m →
+returned : (wait write : FirmwareEnd) (reader : ReaderEnd) (b : Blocks HandoverMap) (ram : RamState) (work : Option (Vec ℕ Global)) → b.at_work ≡ work → HasAckBits b.map → IsSet b.map ram → (m : Machine) → StandsFor (state_of (waiting_at reader work) b) ram m →
     AreApart write reader × Turns Firmware Free (over (state_of (waiting_at reader work) b) ram) (over (state_of Filling b) ram) m
 returned wait (Writes write) (Looks look) b ram None is bits set m st = (tt, frees_at b ram is m st)
 returned wait (Waits write) (Looks look) b ram None is bits set m st = (tt, frees_at b ram is m st)
@@ -124,16 +130,16 @@ returned wait write (Reads read) b ram work is bits set m st = absurd (set_and_c
 returned wait write (Acknowledges end) b ram work is bits set m st = absurd (set_and_clear b.map ram bits set (acks_in (state_of Cleared b) ram m Cleared refl st))
 
 -- both sides after turns of one of them
-pub record SideDone (side : Side) (events : List Event) (ends next : Ends) (old new : Blocks) (ram memory : RamState) : Type 0 where
+pub record SideDone (side : Side) (events : List Event) (ends next : Ends) (old new : Blocks HandoverMap) (ram memory : RamState) : Type 0 where
   pub consistent : IsConsistent next new
   pub turns : (m : Machine) → StandsFor (handover_of ends old) ram m → Runs side events (over (handover_of ends old) ram) (over (handover_of next new) memory) m
 
 -- it has the same blocks and memory
-done_as : (side : Side) (events others : List Event) (ends next : Ends) (old new after : Blocks) (ram memory left : RamState) → events ≡ others → new ≡ after → memory ≡ left → SideDone side others ends next old after ram left →
+done_as : (side : Side) (events others : List Event) (ends next : Ends) (old new after : Blocks HandoverMap) (ram memory left : RamState) → events ≡ others → new ≡ after → memory ≡ left → SideDone side others ends next old after ram left →
     SideDone side events ends next old new ram memory
 done_as side events others ends next old new after ram memory left is_events is_new is_memory done =
     subst (λ (es : List Event). SideDone side es ends next old new ram memory) (sym is_events)
-    (subst (λ (n : Blocks). SideDone side others ends next old n ram memory) (sym is_new) (subst (λ (r : RamState). SideDone side others ends next old after ram r) (sym is_memory) done))
+    (subst (λ (n : Blocks HandoverMap). SideDone side others ends next old n ram memory) (sym is_new) (subst (λ (r : RamState). SideDone side others ends next old after ram r) (sym is_memory) done))
 
 -- what turns of the firmware leave
 firmware_map : (h : HandoverState) (ram : RamState) (events : List Event) (new : HandoverState) (memory : RamState) → FirmwareMakes h ram events new memory → new.map ≡ h.map
@@ -150,7 +156,7 @@ shown : (work : Option (Vec ℕ Global)) (last : Vec ℕ Global) (block : List �
 shown None last block is = absurd cc
 shown (Some v) last block is = refl
 
-moved : (ends next : Ends) (b new : Blocks) → IsConsistent ends b → new.map ≡ b.map → HasRoom 0 new → AreApart next.firmware next.reader → IsFar next.reader new → IsConsistent next new
+moved : (ends next : Ends) (b new : Blocks HandoverMap) → IsConsistent ends b → new.map ≡ b.map → HasRoom window_of 0 new → AreApart next.firmware next.reader → IsFar next.reader new → IsConsistent next new
 moved ends next b new all same room apart far = record {
   bits = subst HasAckBits (sym same) all.bits;
   short = subst (λ (at : HandoverMap). at.len < 2 ^ 32) (sym same) all.short;
@@ -159,7 +165,7 @@ moved ends next b new all same room apart far = record {
   far = far;
 }
 
-pub firmware_done : (firmware end : FirmwareEnd) (reader : ReaderEnd) (b new : Blocks) (ram memory : RamState) (events : List Event) → IsConsistent (record { firmware = firmware; reader = reader }) b → HasRoom 0 new →
+pub firmware_done : (firmware end : FirmwareEnd) (reader : ReaderEnd) (b new : Blocks HandoverMap) (ram memory : RamState) (events : List Event) → IsConsistent (record { firmware = firmware; reader = reader }) b → HasRoom window_of 0 new →
     Stands (handover_of (record { firmware = firmware; reader = reader }) b) ram → FirmwareRuns firmware (over b ram) events end (over new memory) →
     SideDone Firmware events (record { firmware = firmware; reader = reader }) (record { firmware = end; reader = reader }) b new ram memory
 firmware_done (Writes write) (Writes later) (Looks look) b new ram memory events all room stands makes = record {
@@ -209,19 +215,19 @@ abbrev pub situation_at : FirmwareEnd → Option (Vec ℕ Global) → Situation
 situation_at (Writes write) work = Filling
 situation_at (Waits wait) work = looking_at work
 
-nothing_by : (firmware : FirmwareEnd) (look : ReaderEnd) (b : Blocks) (ram : RamState) (work : Option (Vec ℕ Global)) → status_word b.map ram ≡ 0 → (m : Machine) → StandsFor (state_of (situation_at firmware work) b) ram m →
+nothing_by : (firmware : FirmwareEnd) (look : ReaderEnd) (b : Blocks HandoverMap) (ram : RamState) (work : Option (Vec ℕ Global)) → number_at (window b.map ram) 0 4 ≡ 0 → (m : Machine) → StandsFor (state_of (situation_at firmware work) b) ram m →
     Turns Reader Nothing (over (state_of (situation_at firmware work) b) ram) (over (state_of (situation_at firmware work) b) ram) m
 nothing_by (Writes write) look b ram work none m st = finds_nothing (state_of Filling b) ram m (inl refl) st
 nothing_by (Waits wait) look b ram None none m st = finds_nothing (state_of Acknowledged b) ram m (inr refl) st
 nothing_by (Waits wait) look b ram (Some block) none m st = absurd (let some = some_status (state_of Published b) ram m refl st in omega (arith, some, none))
 
 -- a block that is found
-record IsFound (firmware : FirmwareEnd) (read : ReaderEnd) (b : Blocks) (ram : RamState) (m : Machine) (s : Situation) : Type 0 where
+record IsFound (firmware : FirmwareEnd) (read : ReaderEnd) (b : Blocks HandoverMap) (ram : RamState) (m : Machine) (s : Situation) : Type 0 where
   apart : AreApart firmware read
   far : IsCopiedSoFar 0 b.at_work b.last
   turns : Turns Reader Found (over (state_of s b) ram) (over (state_of Reading (record b { copied = 0 })) ram) m
 
-found_by : (firmware : FirmwareEnd) (read : ReaderEnd) (b : Blocks) (ram : RamState) (work : Option (Vec ℕ Global)) → b.at_work ≡ work → 0 < status_word b.map ram → (m : Machine) → StandsFor (state_of (situation_at firmware work) b) ram m →
+found_by : (firmware : FirmwareEnd) (read : ReaderEnd) (b : Blocks HandoverMap) (ram : RamState) (work : Option (Vec ℕ Global)) → b.at_work ≡ work → 0 < number_at (window b.map ram) 0 4 → (m : Machine) → StandsFor (state_of (situation_at firmware work) b) ram m →
     IsFound firmware read b ram m (situation_at firmware work)
 found_by (Writes write) read b ram work is some m st = absurd (let none = no_status (state_of Filling b) ram m (inl refl) st in omega (arith, some, none))
 found_by (Waits wait) read b ram None is some m st = absurd (let none = no_status (state_of Acknowledged b) ram m (inr refl) st in omega (arith, some, none))
@@ -234,7 +240,7 @@ found_by (Waits wait) read b ram (Some block) is some m st =
       turns = subst (λ (o : Option (List ℕ)). Turns Reader Found (over (state_of Published b) ram) (over (record (state_of Reading b) { copied = 0; at_work = o }) ram) m) (old ∙ sym new) (finds (state_of Published b) ram m refl st);
     }
 
-pub reader_done : (firmware : FirmwareEnd) (reader end : ReaderEnd) (b new : Blocks) (ram memory : RamState) (events : List Event) → IsConsistent (record { firmware = firmware; reader = reader }) b → HasRoom 0 new →
+pub reader_done : (firmware : FirmwareEnd) (reader end : ReaderEnd) (b new : Blocks HandoverMap) (ram memory : RamState) (events : List Event) → IsConsistent (record { firmware = firmware; reader = reader }) b → HasRoom window_of 0 new →
     Stands (handover_of (record { firmware = firmware; reader = reader }) b) ram → ReaderRuns reader (over b ram) events end (over new memory) → GoesOn reader end new →
     SideDone Reader events (record { firmware = firmware; reader = reader }) (record { firmware = firmware; reader = end }) b new ram memory
 reader_done (Writes write) (Looks look) (Looks later) b new ram memory events all room stands (found, is_memory) goes =
@@ -253,7 +259,7 @@ reader_done (Writes write) (Looks look) (Reads read) b new ram memory events all
 reader_done (Waits wait) (Looks look) (Reads read) b new ram memory events all room (m, st) (found, is_memory) goes =
     done_as Reader events (Found ∷ []) (record { firmware = Waits wait; reader = Looks look }) (record { firmware = Waits wait; reader = Reads read }) b new (record b { copied = 0 }) ram memory ram found.1 found.2 is_memory
     (record {
-      consistent = moved (record { firmware = Waits wait; reader = Looks look }) (record { firmware = Waits wait; reader = Reads read }) b (record b { copied = 0 }) all refl (subst (HasRoom 0) found.2 room) tt
+      consistent = moved (record { firmware = Waits wait; reader = Looks look }) (record { firmware = Waits wait; reader = Reads read }) b (record b { copied = 0 }) all refl (subst (HasRoom window_of 0) found.2 room) tt
           (found_by (Waits wait) (Reads read) b ram b.at_work refl found.0 m st).far;
       turns = λ n stands. run_one Reader Found (state_of (looking_at b.at_work) b) (state_of Reading (record b { copied = 0 })) ram ram n (found_by (Waits wait) (Reads read) b ram b.at_work refl found.0 n stands).turns;
     })
@@ -291,7 +297,7 @@ held_fits len Reading (Some block) last waiting all = all
 held_fits len Cleared (Some block) last waiting all = all
 held_fits len Acknowledged (Some block) last waiting all = all
 
-pub able : (ends : Ends) (b : Blocks) (ram : RamState) → IsConsistent ends b → Stands (handover_of ends b) ram → IsAble b ram
+pub able : (ends : Ends) (b : Blocks HandoverMap) (ram : RamState) → IsConsistent ends b → Stands (handover_of ends b) ram → IsAble b ram
 able ends b ram all (m, st) = record {
   windows = st.windows;
   short = all.short;

@@ -1,3 +1,5 @@
+pub mod Terms
+pub mod Kept
 pub mod PieceLemmas
 pub mod PlacedLemmas
 pub mod WindowLemmas

@@ -9,8 +9,11 @@ use Rattle.ghes_ack.specs.declared.events.Side.{Side}
 use Rattle.ghes_ack.specs.declared.events.Side.TheVariants.{Firmware, Reader}
 use Rattle.ghes_ack.specs.declared.events.Event.{Event}
 use Rattle.ghes_ack.specs.declared.events.Event.TheVariants.{Idle, Fill, Publish, Free, Wait, Nothing, Found, Copied, Took, Clear, Ack}
-use Rattle.ghes_ack.specs.Machine.{Machine, Situation, Filling, Published, Reading, Cleared, Acknowledged, Fits, block_at, at_work, last_taken, waiting_in, pieces, with_piece, with_status, Turned, offered, firmware_turn, reader_turn, turned, IsFilling, IsWhole, IsEmptied, IsReading, InSituation, IsState}
-use Rattle.ghes_ack.specs.Kept.{Kept, Agrees}
+use Rattle.ghes_ack.specs.Machine.{Machine, Situation, Filling, Published, Reading, Cleared, Acknowledged, Fits, at_work, last_taken, waiting_in, pieces, with_piece, with_status, firmware_turn, reader_turn, turned, IsFilling, IsWhole, IsEmptied, InSituation, IsState}
+use Rattle.ghes_ack.proofs.Terms.{Turned}
+use Rattle.ghes_ack.proofs.Terms.{IsReading}
+use Rattle.ghes_ack.proofs.Terms.{offered}
+use Rattle.ghes_ack.proofs.Kept.{Kept, Agrees}
 use Rattle.ghes_ack.proofs.StepLemmas.{turn_keeps, fits_at_work}
 
 -- a turn of the machine, after which it agrees with this
@@ -237,7 +240,7 @@ copies_last k m block rest now held more all a =
     let one : m.taken + 1 ≡ suc m.acknowledged = omega (arith, t) in
     let turn : turned Reader m ≡ (Took, record m { copied = m.copied + 1; taken = m.taken + 1 }) = turned_took m (a.situation_is ∙ now) x.0 (omega (arith, all, e, c)) in
     next_by Reader Took (record k { copied = k.copied + 1; last = block }) m (record m { copied = m.copied + 1; taken = m.taken + 1 }) turn a.state a.bytes_are a.situation_is a.blocks a.wait a.filled_is (ap (λ (i : ℕ). i + 1) a.copied_is)
-    (sym w ∙ sym (ap (block_at ([] ∷ m.blocks)) one))
+    (sym w ∙ sym (ap (λ (k : ℕ). get_or ([] ∷ m.blocks) k []) one))
 
 pub clears : (k : Kept) (m : Machine) (block : List ℕ) (rest : List (List ℕ)) → k.situation ≡ Reading → k.held ≡ block ∷ rest → length block ≤ 64 * k.copied → Agrees k m →
     Next Reader Clear (record k { situation = Cleared; bytes = with_status k.bytes (spelled 4 0) }) m

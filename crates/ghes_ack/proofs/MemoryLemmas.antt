@@ -15,12 +15,13 @@ use Rattle.apei_space.specs.declared.faults.SpaceFault.{SpaceFault}
 use Rattle.apei_space.specs.RamState.{RamState, located, stored, changed, number_in}
 use Rattle.apei_space.proofs.Placed.{IsPlaced, placed}
 use Rattle.ghes_ack.specs.declared.window.BlockWindow.{BlockWindow}
-use Rattle.ghes_ack.specs.Windows.{HasBlock, HasAddressed, block_bytes, with_block}
+use Rattle.ghes_ack.specs.Windows.{HasBlock, HasAddressed, block_bytes, with_block, address_at}
 use Rattle.ghes_ack.proofs.AddressLemmas as address
 use Rattle.ghes_ack.proofs.PlacedLemmas.{stored_placed, fits_in, mapped_back, mapped_apart, disjoint_sym}
 use Rattle.ghes_ack.proofs.WindowLemmas.{length-block}
 use Rattle.ghes_ack.specs.declared.maps.HandoverMap.{HandoverMap}
-use Rattle.ghes_ack.specs.Maps.{HasAckBits, HasWindows, ack_bytes, ack_mask, kept_mask, bytes_in, address_in, window, window_of, ack_read, with_window, with_ack, with_address, IsSet, IsClear, with_set, with_clear, acknowledged}
+use Rattle.ghes_ack.specs.Maps.{HasAckBits, HasWindows, ack_bytes, ack_mask, window, window_of, ack_read, with_window, with_ack, with_address, IsSet, IsClear, with_clear, acknowledged}
+use Rattle.ghes_ack.proofs.Terms.{bytes_in}
 
 pub ack_some : (map : HandoverMap) → 0 < ack_bytes map
 ack_some map = go map.ack.access where
@@ -79,14 +80,14 @@ pub ack-with_window : (map : HandoverMap) (ram : RamState) (bytes : List ℕ) �
 ack-with_window map ram bytes w n =
     ap little (mapped_apart ram (Memory map.block) map.len bytes map.ack.place (ack_bytes map) w.fills w.block (block_some map ram w) n w.ack (ack_some map) (disjoint_sym map.ack.place (ack_bytes map) (Memory map.block) map.len w.ack_block))
 
-pub address-with_window : (map : HandoverMap) (ram : RamState) (bytes : List ℕ) → HasWindows map ram → length bytes ≡ map.len → address_in map (with_window map ram bytes) ≡ address_in map ram
+pub address-with_window : (map : HandoverMap) (ram : RamState) (bytes : List ℕ) → HasWindows map ram → length bytes ≡ map.len → address_at map.status (with_window map ram bytes) ≡ address_at map.status ram
 address-with_window map ram bytes w n = address.address-with_window map.status (window_of map) ram bytes (addressed map ram w) n
 
 pub window-with_ack : (map : HandoverMap) (ram : RamState) (x : ℕ) → HasWindows map ram → window map (with_ack map ram x) ≡ window map ram
 window-with_ack map ram x w =
     mapped_apart ram map.ack.place (ack_bytes map) (spelled (ack_bytes map) x) (Memory map.block) map.len w.fills w.ack (ack_some map) (length-spelled (ack_bytes map) x) w.block (block_some map ram w) w.ack_block
 
-pub address-with_ack : (map : HandoverMap) (ram : RamState) (x : ℕ) → HasWindows map ram → address_in map (with_ack map ram x) ≡ address_in map ram
+pub address-with_ack : (map : HandoverMap) (ram : RamState) (x : ℕ) → HasWindows map ram → address_at map.status (with_ack map ram x) ≡ address_at map.status ram
 address-with_ack map ram x w =
     ap little (mapped_apart ram map.ack.place (ack_bytes map) (spelled (ack_bytes map) x) (Memory map.status) 8 w.fills w.ack (ack_some map) (length-spelled (ack_bytes map) x) w.status (omega arith) (disjoint_sym (Memory map.status) 8 map.ack.place (ack_bytes map) w.status_ack))
 
@@ -97,7 +98,7 @@ pub ack-with_address : (map : HandoverMap) (ram : RamState) → HasWindows map r
 ack-with_address map ram w =
     ap little (mapped_apart ram (Memory map.status) 8 (spelled 8 map.block) map.ack.place (ack_bytes map) w.fills w.status (omega arith) (length-spelled 8 map.block) w.ack (ack_some map) w.status_ack)
 
-pub address-with_address : (map : HandoverMap) (ram : RamState) → HasWindows map ram → address_in map (with_address map ram) ≡ map.block
+pub address-with_address : (map : HandoverMap) (ram : RamState) → HasWindows map ram → address_at map.status (with_address map ram) ≡ map.block
 address-with_address map ram w = address.address-with_address map.status (window_of map) ram (addressed map ram w)
 
 pub ack-with_ack : (map : HandoverMap) (ram : RamState) (x : ℕ) → HasWindows map ram → x < 2 ^ bits map.ack.access → ack_read map (with_ack map ram x) ≡ x
@@ -145,16 +146,16 @@ clear_bits map ram w small =
 
 pub acknowledged_bits : (map : HandoverMap) (ram : RamState) → HasWindows map ram → ack_read map ram < 2 ^ bits map.ack.access → HasAckBits map → IsSet map (with_ack map ram (acknowledged map (ack_read map ram)))
 acknowledged_bits map ram w small sound =
-    let le = and_le_l (ack_read map ram) (kept_mask map) in
-    let low : acknowledged map (ack_read map ram) < 2 ^ bits map.ack.access = or_lt (bits map.ack.access) (bit_and (ack_read map ram) (kept_mask map)) (ack_mask map) (omega (arith, le, small)) (mask_small map sound) in
+    let le = and_le_l (ack_read map ram) (map.preserve * 2 ^ map.ack.offset % 2 ^ 64) in
+    let low : acknowledged map (ack_read map ram) < 2 ^ bits map.ack.access = or_lt (bits map.ack.access) (bit_and (ack_read map ram) (map.preserve * 2 ^ map.ack.offset % 2 ^ 64)) (ack_mask map) (omega (arith, le, small)) (mask_small map sound) in
     let back = ack-with_ack map ram (acknowledged map (ack_read map ram)) w low in
-    ap (λ (x : ℕ). bit_and x (ack_mask map)) back ∙ and_or_self (ack_mask map) (bit_and (ack_read map ram) (kept_mask map))
+    ap (λ (x : ℕ). bit_and x (ack_mask map)) back ∙ and_or_self (ack_mask map) (bit_and (ack_read map ram) (map.preserve * 2 ^ map.ack.offset % 2 ^ 64))
 
 -- the acknowledge bits are set at a start
-pub set_bits : (map : HandoverMap) (ram : RamState) → HasWindows map ram → ack_read map ram < 2 ^ bits map.ack.access → HasAckBits map → IsSet map (with_ack map ram (with_set map (ack_read map ram)))
+pub set_bits : (map : HandoverMap) (ram : RamState) → HasWindows map ram → ack_read map ram < 2 ^ bits map.ack.access → HasAckBits map → IsSet map (with_ack map ram (bit_or (ack_read map ram) (ack_mask map)))
 set_bits map ram w small sound =
-    let low : with_set map (ack_read map ram) < 2 ^ bits map.ack.access = or_lt (bits map.ack.access) (ack_read map ram) (ack_mask map) small (mask_small map sound) in
-    let back = ack-with_ack map ram (with_set map (ack_read map ram)) w low in
+    let low : bit_or (ack_read map ram) (ack_mask map) < 2 ^ bits map.ack.access = or_lt (bits map.ack.access) (ack_read map ram) (ack_mask map) small (mask_small map sound) in
+    let back = ack-with_ack map ram (bit_or (ack_read map ram) (ack_mask map)) w low in
     ap (λ (x : ℕ). bit_and x (ack_mask map)) back ∙ and_or_self (ack_mask map) (ack_read map ram)
 
 -- a number that was read, 0 where none was

@@ -11,7 +11,8 @@ use Rattle.apei_space.specs.Windows.{EndsBelow, AreApart}
 use Rattle.apei_space.specs.RamState.{RamState, FillsWindows, located, stored}
 use Rattle.apei_space.specs.Mapped.{Holds, IsMapped, AreMapped, AreDisjoint}
 use Rattle.apei_space.proofs.Placed.{IsPlaced, placed, placed_fits, placed_apart}
-use Rattle.ghes_ack.specs.Places.{bytes_in, bytes_at}
+use Rattle.ghes_ack.specs.Places.{bytes_at}
+use Rattle.ghes_ack.proofs.Terms.{bytes_in}
 use Rattle.ghes_ack.proofs.PieceLemmas.{take_part}
 
 regroup : (t a p b d : List ℕ) → t ++ (a ++ p ++ b) ++ d ≡ (t ++ a) ++ p ++ (b ++ d)

@@ -11,7 +11,8 @@ use Rattle.ghes_ack.specs.Machine.{Machine, Filling, Reading, with_piece, with_p
 use Rattle.ghes_ack.specs.Maps.{HasWindows, window, window_of, with_window, memory_after, AreLeft}
 use Rattle.ghes_ack.specs.Elsewhere.{SameWhere, IsOffBlock}
 use Rattle.ghes_ack.specs.Handovers.{HandoverState, kept, StandsFor, AreTurned, over}
-use Rattle.ghes_ack.specs.Sides.{Turns, Runs, MakesTurns}
+use Rattle.ghes_ack.specs.Sides.{Turns, MakesTurns}
+use Rattle.ghes_ack.proofs.Terms.{Runs}
 use Rattle.ghes_ack.proofs.MemoryLemmas.{has_block, length-window, window-with_window}
 use Rattle.ghes_ack.proofs.PieceLemmas.{length-with_piece}
 use Rattle.ghes_ack.proofs.WriteLemmas.{block_twice, length-with_pieces, pieces_next}

@@ -7,7 +7,10 @@ use Rattle.ghes_ack.specs.declared.events.Side.{Side}
 use Rattle.ghes_ack.specs.declared.events.Side.TheVariants.{Firmware, Reader}
 use Rattle.ghes_ack.specs.declared.events.Event.{Event}
 use Rattle.ghes_ack.specs.declared.events.Event.TheVariants.{Idle, Fill, Publish, Free, Wait, Nothing, Found, Copied, Took, Clear, Ack}
-use Rattle.ghes_ack.specs.Machine.{Machine, Situation, Filling, Published, Reading, Cleared, Acknowledged, at_work, pieces, filling, offered, reading, firmware_turn, reader_turn, turned, submitted, IsWhole, IsReading, InSituation, IsState}
+use Rattle.ghes_ack.specs.Machine.{Machine, Situation, Filling, Published, Reading, Cleared, Acknowledged, at_work, pieces, filling, firmware_turn, reader_turn, turned, submitted, IsWhole, InSituation, IsState}
+use Rattle.ghes_ack.proofs.Terms.{IsReading}
+use Rattle.ghes_ack.proofs.Terms.{offered}
+use Rattle.ghes_ack.proofs.Terms.{reading}
 use Rattle.ghes_ack.specs.Schedules.{Step, Submit, Turn, Watched, next_piece, watched, after, run, from_start, AreFitting, submissions, AreInOrder}
 use Rattle.ghes_ack.proofs.PieceLemmas.{next_copied}
 use Rattle.ghes_ack.proofs.StepLemmas.{turn_keeps, submit_keeps, start_is}

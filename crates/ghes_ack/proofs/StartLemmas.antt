@@ -8,30 +8,34 @@ use Rattle.base_model.specs.Bytes.{spelled}
 use Rattle.base_model.proofs.BytesLemmas.{length-spelled}
 use Rattle.apei_space.specs.RamState.{RamState}
 use Rattle.ghes_block.specs.declared.error.BlockError.{BlockError}
-use Rattle.ghes_block.specs.Reading.{checked, status_at}
+use Rattle.ghes_block.specs.Reading.{checked}
+use Rattle.ghes_block.proofs.Terms.{status_at}
 use Rattle.ghes_ack.specs.declared.maps.HandoverMap.{HandoverMap}
 use Rattle.ghes_ack.specs.declared.window.BlockWindow.{BlockWindow}
-use Rattle.ghes_ack.specs.declared.window_blocks.Blocks.{Blocks as BlocksOver}
+use Rattle.ghes_ack.specs.declared.window_blocks.Blocks.{Blocks}
 use Rattle.ghes_ack.specs.WindowQueues.{IsEmpty, Adds}
-use Rattle.ghes_ack.specs.Queues.{Blocks}
 use Rattle.ghes_ack.specs.Machine.{Machine, Situation, Filling, Published, Reading, Cleared, Acknowledged, Fits, with_status, started, submitted, waiting_in, InSituation, IsState}
-use Rattle.ghes_ack.specs.Maps.{HasAckBits, HasWindows, address_in, ack_read, window, with_ack, with_address, with_set, memory_started, IsSet}
-use Rattle.ghes_ack.specs.Handovers.{HandoverState, fresh, StandsFor, reason}
+use Rattle.ghes_ack.specs.Maps.{HasAckBits, HasWindows, ack_read, window, with_ack, with_address, memory_started, IsSet, ack_mask}
+use Rattle.ghes_ack.specs.Handovers.{HandoverState, fresh, StandsFor}
+use Rattle.ghes_ack.specs.Windows.{address_at}
+use Rattle.ghes_ack.proofs.Terms.{reason}
 use Rattle.ghes_ack.specs.Submissions.{refusal_of}
 use Rattle.ghes_ack.specs.declared.submission.SubmitError.{SubmitError}
 use Rattle.ghes_ack.specs.declared.submission.SubmitError.TheVariants.{Long, Trailing, Full}
 use Rattle.std.specs.VecDeque.{deque_len}
 use Rattle.ghes_ack.specs.declared.ends.Ends.{Ends}
-use Rattle.ghes_ack.specs.Sides.{AreConsistent, situation_in, state_of, view_of, in_work}
+use Rattle.ghes_ack.specs.Sides.{AreConsistent, state_of, view_of, in_work}
+use Rattle.ghes_ack.proofs.Terms.{situation_in}
 use Rattle.ghes_ack.proofs.StepLemmas.{start_is, submit_keeps}
 use Rattle.ghes_ack.proofs.ScheduleLemmas.{state_in_order}
 use Rattle.ghes_ack.proofs.MemoryLemmas.{length-window, window-with_window, address-with_window, address-with_ack, address-with_address, HasWindows-with_ack, HasWindows-with_address}
 use Rattle.ghes_ack.proofs.EffectLemmas.{windows_window, length-status}
-use Rattle.ghes_ack.specs.Kept.{Kept, Agrees, kept_over}
+use Rattle.ghes_ack.proofs.Kept.{Kept, Agrees, kept_over}
 use Rattle.ghes_ack.proofs.TurnLemmas.{kept_with, agrees, stands_by}
+use Rattle.std.specs.Prelude.{bit_or}
 
 -- the two sides of a start, with no block
-pub fresh_is : {M : Type 0} (b : BlocksOver M) → IsEmpty b → state_of Filling b ≡ fresh b.map
+pub fresh_is : {M : Type 0} (b : Blocks M) → IsEmpty b → state_of Filling b ≡ fresh b.map
 fresh_is b e =
     let waiting : map (λ v. v.items) b.waiting.items ≡ [] = ap (map (λ v. v.items)) e.waiting in
     let work : in_work Filling b.at_work b.last ≡ None = ap (λ (o : Option (Vec ℕ Global)). in_work Filling o b.last) e.at_work in
@@ -55,20 +59,20 @@ fresh_agrees at len window n head = record {
 pub fresh_stands : (at : HandoverMap) (ram new : RamState) → HasWindows at ram → new ≡ memory_started at ram → IsSet at new → StandsFor (fresh at) new (started (window at ram))
 fresh_stands at ram new w is set =
     let a : RamState = with_address at ram in
-    let x : ℕ = with_set at (ack_read at ram) in
+    let x : ℕ = bit_or (ack_read at ram) (ack_mask at) in
     let w_a = HasWindows-with_address at ram w in
     let w_b = HasWindows-with_ack at a x w_a in
     let bytes : List ℕ = with_status (window at ram) (spelled 4 0) in
     let wide = length-status at ram (spelled 4 0) (length-spelled 4 0) w in
     stands_by (fresh at) new bytes (started (window at ram)) (fresh_agrees at at.len (window at ram) (length-window at ram w) w.head)
     (sym (ap (window at) is ∙ window-with_window at (with_ack at a x) bytes w_b wide)) (windows_window at (with_ack at a x) new bytes is wide w_b)
-    (ap (address_in at) is ∙ address-with_window at (with_ack at a x) bytes w_b wide ∙ address-with_ack at a x w_a ∙ address-with_address at ram w) set
+    (ap (address_at at.status) is ∙ address-with_window at (with_ack at a x) bytes w_b wide ∙ address-with_ack at a x w_a ∙ address-with_address at ram w) set
 
 pub record IsBegun (at : HandoverMap) (h : HandoverState) (ram new : RamState) : Type 0 where
   pub fresh_is : h ≡ fresh at
   pub stands : StandsFor h new (started (window at ram))
 
-pub begun : (at : HandoverMap) (b : Blocks) (ram new : RamState) → b.map ≡ at → IsEmpty b → HasWindows at ram → new ≡ memory_started at ram → IsSet at new → IsBegun at (state_of Filling b) ram new
+pub begun : (at : HandoverMap) (b : Blocks HandoverMap) (ram new : RamState) → b.map ≡ at → IsEmpty b → HasWindows at ram → new ≡ memory_started at ram → IsSet at new → IsBegun at (state_of Filling b) ram new
 begun at b ram new same e w is set =
     let all : state_of Filling b ≡ fresh at = fresh_is b e ∙ ap fresh same in
     record {
@@ -137,17 +141,17 @@ submits h ram m block good st =
     stands_by (record h { waiting = h.waiting ++ block ∷ [] }) ram (window h.map ram) (submitted m block) more refl st.windows st.address st.acks
 
 -- the acknowledge bits
-pub bits_of : (ends : Option Ends) (b : Blocks) → AreConsistent ends b → HasAckBits b.map
+pub bits_of : (ends : Option Ends) (b : Blocks HandoverMap) → AreConsistent ends b → HasAckBits b.map
 bits_of None b all = absurd all
 bits_of (Some ends) b all = all.bits
 
 -- the blocks that wait
-pub waiting_of : (ends : Option Ends) (b : Blocks) → AreConsistent ends b → length (view_of ends b).waiting ≡ deque_len b.waiting
+pub waiting_of : (ends : Option Ends) (b : Blocks HandoverMap) → AreConsistent ends b → length (view_of ends b).waiting ≡ deque_len b.waiting
 waiting_of None b all = absurd all
 waiting_of (Some ends) b all = length-map b.waiting.items (λ v. v.items) ∙ all.room.counted
 
 -- a block more
-added_in : {M : Type 0} {w : M → BlockWindow} (s : Situation) (b after : BlocksOver M) (block : List ℕ) → Adds w b after block → state_of s after ≡ record (state_of s b) { waiting = (state_of s b).waiting ++ block ∷ [] }
+added_in : {M : Type 0} {w : M → BlockWindow} (s : Situation) (b after : Blocks M) (block : List ℕ) → Adds w b after block → state_of s after ≡ record (state_of s b) { waiting = (state_of s b).waiting ++ block ∷ [] }
 added_in s b after block a =
     let waiting = a.waiting in
     let map_is = a.same.map in
@@ -159,7 +163,7 @@ added_in s b after block a =
     ap (λ (x : Option (Vec ℕ Global)). in_work s x after.last) a.at_work ∙ ap (λ (x : Vec ℕ Global). in_work s b.at_work x) a.same.last in
     cc
 
-pub added : {M : Type 0} {w : M → BlockWindow} (ends : Option Ends) (b after : BlocksOver M) (block : List ℕ) → Adds w b after block → view_of ends after ≡ record (view_of ends b) { waiting = (view_of ends b).waiting ++ block ∷ [] }
+pub added : {M : Type 0} {w : M → BlockWindow} (ends : Option Ends) (b after : Blocks M) (block : List ℕ) → Adds w b after block → view_of ends after ≡ record (view_of ends b) { waiting = (view_of ends b).waiting ++ block ∷ [] }
 added ends b after block a =
     ap (λ (o : Option (Vec ℕ Global)). state_of (situation_in ends o) after) a.at_work ∙ added_in (situation_in ends b.at_work) b after block a
 

@@ -8,7 +8,10 @@ use Rattle.base_model.specs.Bytes.{number_at, spelled}
 use Rattle.base_model.proofs.BytesLemmas.{length-spelled}
 use Rattle.ghes_ack.specs.declared.events.Side.{Side}
 use Rattle.ghes_ack.specs.declared.events.Side.TheVariants.{Firmware, Reader}
-use Rattle.ghes_ack.specs.Machine.{Machine, Situation, Filling, Published, Reading, Cleared, Acknowledged, Fits, at_work, pieces, hidden, with_piece, with_status, filling, offered, reading, firmware_turn, reader_turn, turned, started, submitted, IsFilling, IsWhole, IsEmptied, IsReading, InSituation, IsState}
+use Rattle.ghes_ack.specs.Machine.{Machine, Situation, Filling, Published, Reading, Cleared, Acknowledged, Fits, at_work, pieces, hidden, with_piece, with_status, filling, firmware_turn, reader_turn, turned, started, submitted, IsFilling, IsWhole, IsEmptied, InSituation, IsState}
+use Rattle.ghes_ack.proofs.Terms.{IsReading}
+use Rattle.ghes_ack.proofs.Terms.{offered}
+use Rattle.ghes_ack.proofs.Terms.{reading}
 use Rattle.ghes_ack.proofs.RoomLemmas.{All-one}
 use Rattle.ghes_ack.proofs.PieceLemmas.{length-hidden, next_bytes, published_whole, number_at-take, status-cleared, status-hidden, length-with_piece, length-with_status}
 

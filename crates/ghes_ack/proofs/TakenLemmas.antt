@@ -5,7 +5,8 @@ use Rattle.base_model.specs.Bytes.{spelled}
 use Rattle.ghes_ack.specs.declared.events.Side.TheVariants.{Reader}
 use Rattle.ghes_ack.specs.declared.events.Event.{Event}
 use Rattle.ghes_ack.specs.declared.events.Event.TheVariants.{Copied, Took, Clear}
-use Rattle.ghes_ack.specs.Machine.{Machine, Situation, Filling, Published, Reading, Cleared, Acknowledged, Turned, turned, reader_turn, pieces, at_work, with_status, last_taken, Fits, IsState, InSituation}
+use Rattle.ghes_ack.specs.Machine.{Machine, Situation, Filling, Published, Reading, Cleared, Acknowledged, turned, reader_turn, pieces, at_work, with_status, last_taken, Fits, IsState, InSituation}
+use Rattle.ghes_ack.proofs.Terms.{Turned}
 use Rattle.ghes_ack.proofs.StepLemmas.{turn_keeps}
 
 reads_one : (b c : Bool) (m n o : Machine) → ◌≡◌ {A = Event} Took (cond {A = Turned} b (Copied, m) (cond {A = Turned} c (Took, n) (Clear, o))).0

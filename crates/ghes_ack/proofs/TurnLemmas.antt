@@ -1,7 +1,7 @@
 -- Each turn of a handover is the machine's turn.
 use Rattle.std.proofs.Common.{◌≡◌, ◌∙◌, ℕ, ◌+◌, ◌*◌, ◌<◌, ◌≤◌, ◌⊎◌, inl, List, [], ◌∷◌, ◌++◌, length, take, Option, Some, None, option_to_list, refl, sym, ap, subst, arith, bit_and}
 use Rattle.std.proofs.lemmas.List.{length-take}
-use Rattle.base_model.specs.Bytes.{part, spelled, put_at}
+use Rattle.base_model.specs.Bytes.{part, spelled, put_at, number_at}
 use Rattle.base_model.proofs.BytesLemmas.{length-spelled}
 use Rattle.apei_space.specs.RamState.{RamState}
 use Rattle.ghes_ack.proofs.PieceLemmas.{length-with_piece}
@@ -10,15 +10,18 @@ use Rattle.ghes_ack.specs.declared.events.Side.{Side}
 use Rattle.ghes_ack.specs.declared.events.Side.TheVariants.{Firmware, Reader}
 use Rattle.ghes_ack.specs.declared.events.Event.{Event}
 use Rattle.ghes_ack.specs.declared.events.Event.TheVariants.{Idle, Fill, Publish, Free, Wait, Nothing, Found, Copied, Took, Clear, Ack}
-use Rattle.ghes_ack.specs.Machine.{Machine, Situation, Filling, Published, Reading, Cleared, Acknowledged, Fits, with_piece, with_status, Turned, turned}
-use Rattle.ghes_ack.specs.Maps.{HasAckBits, HasWindows, window, status_word, address_in, ack_read, ack_mask, with_window, with_ack, with_clear, acknowledged, memory_after, IsSet, IsClear}
+use Rattle.ghes_ack.specs.Machine.{Machine, Situation, Filling, Published, Reading, Cleared, Acknowledged, Fits, with_piece, with_status, turned}
+use Rattle.ghes_ack.proofs.Terms.{Turned}
+use Rattle.ghes_ack.specs.Maps.{HasAckBits, HasWindows, window, ack_read, ack_mask, with_window, with_ack, with_clear, acknowledged, memory_after, IsSet, IsClear}
 use Rattle.ghes_ack.specs.Handovers.{HandoverState, kept, AcksAre, StandsFor, over}
-use Rattle.ghes_ack.specs.Sides.{Turns, Stands}
+use Rattle.ghes_ack.specs.Sides.{Turns}
+use Rattle.ghes_ack.specs.Sides.{Stands}
 use Rattle.ghes_ack.proofs.MachineTurns as machine
-use Rattle.ghes_ack.specs.Kept.{Kept, Agrees, kept_over}
+use Rattle.ghes_ack.proofs.Kept.{Kept, Agrees, kept_over}
 use Rattle.ghes_ack.proofs.MachineTurns.{Next}
 use Rattle.ghes_ack.proofs.MemoryLemmas.{length-window, window-with_window, window-with_ack, address-with_window, address-with_ack, ack-with_window, HasWindows-with_ack}
 use Rattle.ghes_ack.proofs.EffectLemmas.{windows_window, windows_ack, length-status}
+use Rattle.ghes_ack.specs.Windows.{address_at}
 
 -- what it keeps, with other bytes in its window
 abbrev pub kept_with : HandoverState → List ℕ → Kept
@@ -36,7 +39,7 @@ agrees h ram m st = record {
   last_is = st.last;
 }
 
-pub stands_by : (h : HandoverState) (ram : RamState) (bytes : List ℕ) (m : Machine) → Agrees (kept_with h bytes) m → bytes ≡ window h.map ram → HasWindows h.map ram → address_in h.map ram ≡ h.map.block → AcksAre h.situation h.map ram → StandsFor h ram m
+pub stands_by : (h : HandoverState) (ram : RamState) (bytes : List ℕ) (m : Machine) → Agrees (kept_with h bytes) m → bytes ≡ window h.map ram → HasWindows h.map ram → address_at h.map.status ram ≡ h.map.block → AcksAre h.situation h.map ram → StandsFor h ram m
 stands_by h ram bytes m a seen windows address acks = record {
   state = a.state;
   windows = windows;
@@ -66,7 +69,7 @@ set_and_clear at ram bits set clear = let some = bits.some in let e : ack_mask a
 
 -- a turn that the machine makes so: what it keeps then, and what the memory is
 turns : (side : Side) (event : Event) (h after : HandoverState) (ram memory : RamState) (bytes : List ℕ) (m : Machine) → Next side event (kept_with after bytes) m → bytes ≡ window after.map memory → after.map ≡ h.map →
-    memory ≡ memory_after h.map event ram (window h.map memory) → HasWindows after.map memory → address_in after.map memory ≡ after.map.block → AcksAre after.situation after.map memory → Turns side event (over h ram) (over after memory) m
+    memory ≡ memory_after h.map event ram (window h.map memory) → HasWindows after.map memory → address_at after.map.status memory ≡ after.map.block → AcksAre after.situation after.map memory → Turns side event (over h ram) (over after memory) m
 turns side event h after ram memory bytes m next seen same memory_is windows address acks =
     let e : (turned side m).1 ≡ next.machine = ap (λ (t : Turned). t.1) next.is in
     record {
@@ -80,7 +83,7 @@ turns side event h after ram memory bytes m next seen same memory_is windows add
 
 -- a turn that leaves the memory
 stays : (side : Side) (event : Event) (h after : HandoverState) (ram : RamState) (m : Machine) → Next side event (kept_with after (window after.map ram)) m → after.map ≡ h.map → ram ≡ memory_after h.map event ram (window h.map ram) →
-    HasWindows after.map ram → address_in after.map ram ≡ after.map.block → AcksAre after.situation after.map ram → Turns side event (over h ram) (over after ram) m
+    HasWindows after.map ram → address_at after.map.status ram ≡ after.map.block → AcksAre after.situation after.map ram → Turns side event (over h ram) (over after ram) m
 stays side event h after ram m next same is windows address acks = turns side event h after ram ram (window after.map ram) m next refl same is windows address acks
 
 -- a write of the window and nothing else
@@ -90,8 +93,8 @@ written map ram new bytes w n is = ap (window map) is ∙ window-with_window map
 pub written_only : (map : HandoverMap) (ram new : RamState) (bytes : List ℕ) → HasWindows map ram → length bytes ≡ map.len → new ≡ with_window map ram bytes → new ≡ with_window map ram (window map new)
 written_only map ram new bytes w n is = is ∙ ap (with_window map ram) (sym (written map ram new bytes w n is))
 
-same_address : (map : HandoverMap) (ram new : RamState) (bytes : List ℕ) → HasWindows map ram → length bytes ≡ map.len → new ≡ with_window map ram bytes → address_in map new ≡ address_in map ram
-same_address map ram new bytes w n is = ap (address_in map) is ∙ address-with_window map ram bytes w n
+same_address : (map : HandoverMap) (ram new : RamState) (bytes : List ℕ) → HasWindows map ram → length bytes ≡ map.len → new ≡ with_window map ram bytes → address_at map.status new ≡ address_at map.status ram
+same_address map ram new bytes w n is = ap (address_at map.status) is ∙ address-with_window map ram bytes w n
 
 -- the firmware's block fits into the window
 pub next_fits : (h : HandoverState) (ram : RamState) (m : Machine) (block : List ℕ) (rest : List (List ℕ)) → kept h ≡ block ∷ rest → StandsFor h ram m → Fits h.map.len block
@@ -137,14 +140,14 @@ pub frees : (h : HandoverState) (ram : RamState) (m : Machine) → h.situation �
 frees h ram m now st =
     stays Firmware Free h (record h { situation = Filling }) ram m (machine.frees (kept_with h (window h.map ram)) m now (agrees h ram m st)) refl refl st.windows st.address (acks_in h ram m Acknowledged now st)
 
-pub no_status : (h : HandoverState) (ram : RamState) (m : Machine) → (h.situation ≡ Filling) ⊎ (h.situation ≡ Acknowledged) → StandsFor h ram m → status_word h.map ram ≡ 0
+pub no_status : (h : HandoverState) (ram : RamState) (m : Machine) → (h.situation ≡ Filling) ⊎ (h.situation ≡ Acknowledged) → StandsFor h ram m → number_at (window h.map ram) 0 4 ≡ 0
 no_status h ram m now st = machine.no_status (kept_with h (window h.map ram)) m now (agrees h ram m st)
 
 pub finds_nothing : (h : HandoverState) (ram : RamState) (m : Machine) → (h.situation ≡ Filling) ⊎ (h.situation ≡ Acknowledged) → StandsFor h ram m → Turns Reader Nothing (over h ram) (over h ram) m
 finds_nothing h ram m now st = stays Reader Nothing h h ram m (machine.finds_nothing (kept_with h (window h.map ram)) m now (agrees h ram m st)) refl refl st.windows st.address st.acks
 
 -- a published block shows its status
-pub some_status : (h : HandoverState) (ram : RamState) (m : Machine) → h.situation ≡ Published → StandsFor h ram m → 0 < status_word h.map ram
+pub some_status : (h : HandoverState) (ram : RamState) (m : Machine) → h.situation ≡ Published → StandsFor h ram m → 0 < number_at (window h.map ram) 0 4
 some_status h ram m now st = machine.some_status (kept_with h (window h.map ram)) m (inl now) (agrees h ram m st)
 
 pub finds : (h : HandoverState) (ram : RamState) (m : Machine) → h.situation ≡ Published → StandsFor h ram m → Turns Reader Found (over h ram) (over (record h { situation = Reading; copied = 0 }) ram) m
@@ -190,4 +193,4 @@ acknowledges h ram new m block now is memory set st =
     let value = acknowledged h.map (ack_read h.map ram) in
     turns Reader Ack h (record h { situation = Acknowledged; at_work = None }) ram new (window h.map ram) m
     (machine.acknowledges (kept_with h (window h.map ram)) m block h.waiting now (held_work h block is) (agrees h ram m st)) (sym (ap (window h.map) memory ∙ window-with_ack h.map ram value st.windows)) refl
-    memory (windows_ack h.map ram new value memory st.windows) (ap (address_in h.map) memory ∙ address-with_ack h.map ram value st.windows ∙ st.address) set
+    memory (windows_ack h.map ram new value memory st.windows) (ap (address_at h.map.status) memory ∙ address-with_ack h.map ram value st.windows ∙ st.address) set

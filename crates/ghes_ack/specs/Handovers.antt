@@ -1,15 +1,12 @@
 -- What a handover keeps, and the states of the machine that it stands for.
-use Rattle.std.specs.Prelude.{◌≡◌, ℕ, nat_lt, if◌then◌else◌, ◌-◌, List, [], ◌++◌, length, drop, Option, Some, None, Result, Ok, Err, option_to_list}
-use Rattle.ghes_block.specs.declared.error.BlockError.{BlockError}
-use Rattle.ghes_block.specs.Reading.{checked}
+use Rattle.std.specs.Prelude.{◌≡◌, ℕ, List, [], ◌++◌, length, drop, Option, None, option_to_list}
 use Rattle.apei_space.specs.RamState.{RamState}
 use Rattle.ghes_ack.specs.declared.maps.HandoverMap.{HandoverMap}
 use Rattle.ghes_ack.specs.declared.events.Side.{Side}
 use Rattle.ghes_ack.specs.declared.events.Event.{Event}
-use Rattle.ghes_ack.specs.declared.submission.SubmitError.{SubmitError}
-use Rattle.ghes_ack.specs.declared.submission.SubmitError.TheVariants.{Long, Malformed, Trailing, Full}
 use Rattle.ghes_ack.specs.Machine.{Machine, Situation, Filling, Published, Reading, Cleared, Acknowledged, IsState, turned, turned_times, events_of_times, last_taken, waiting_in}
-use Rattle.ghes_ack.specs.Maps.{HasWindows, address_in, window, IsSet, IsClear}
+use Rattle.ghes_ack.specs.Maps.{HasWindows, window, IsSet, IsClear}
+use Rattle.ghes_ack.specs.Windows.{address_at}
 
 -- the blocks that wait, the one that is filled or published and not yet acknowledged, and the one taken last
 pub record HandoverOver (M : Type 0) : Type 0 where
@@ -53,7 +50,7 @@ AcksAre Acknowledged at ram = IsSet at ram
 pub record StandsFor (h : HandoverState) (ram : RamState) (m : Machine) : Type 0 where
   pub state : IsState h.map.len m
   pub windows : HasWindows h.map ram
-  pub address : address_in h.map ram ≡ h.map.block
+  pub address : address_at h.map.status ram ≡ h.map.block
   pub acks : AcksAre h.situation h.map ram
   pub window_is : m.window ≡ window h.map ram
   pub situation : m.situation ≡ h.situation
@@ -73,12 +70,3 @@ pub record IsTurned (side : Side) (event : Event) (after : HandoverState) (memor
 pub record AreTurned (side : Side) (n : ℕ) (events : List Event) (after : HandoverState) (memory : RamState) (m : Machine) : Type 0 where
   pub events_are : events ≡ events_of_times side n m
   pub stands : StandsFor after memory (turned_times side n m)
-
--- the first reason why a block is refused: none where it is exactly one block of at most the window's length, and fewer
--- than 64 wait
-abbrev pub reason : Result ℕ BlockError → ℕ → ℕ → Option SubmitError
-reason (Err error) n waiting = Some (Malformed error)
-reason (Ok size) n waiting = if nat_lt size n then Some (Trailing (n - size)) else (if nat_lt waiting 64 then None else Some Full)
-
-abbrev pub refusal : HandoverState → List ℕ → Option SubmitError
-refusal h block = if nat_lt h.map.len (length block) then Some (Long (length block)) else reason (checked block) (length block) (length h.waiting)

@@ -7,9 +7,7 @@ pub mod Maps
 pub mod Publications
 pub mod Elsewhere
 pub mod Handovers
-pub mod Kept
 pub mod Submissions
-pub mod Queues
 pub mod Sides
 pub mod OwnTurns
 pub mod Schedules

@@ -29,17 +29,13 @@ pub record Machine : Type 0 where
   pub window : List ℕ
   pub situation : Situation
 
--- block number k, counted from 0
-abbrev pub block_at : List (List ℕ) → ℕ → List ℕ
-block_at blocks k = get_or blocks k []
-
 -- the oldest block that is not acknowledged
 abbrev pub at_work : Machine → List ℕ
-at_work m = block_at m.blocks m.acknowledged
+at_work m = get_or m.blocks m.acknowledged []
 
 -- the block taken last, empty where none was taken
 abbrev pub last_taken : Machine → List ℕ
-last_taken m = block_at ([] ∷ m.blocks) m.taken
+last_taken m = get_or ([] ∷ m.blocks) m.taken []
 
 -- how many blocks wait: a block waits until its first piece is filled
 abbrev pub waiting_in : Machine → ℕ
@@ -51,42 +47,32 @@ is_idle Reading = false
 is_idle Cleared = false
 is_idle _ = true
 
--- one turn: the event, and the state afterwards
-abbrev pub Turned : Type 0
-Turned = Event × Machine
-
 -- the firmware fills the oldest block that waits, and publishes it when all its pieces are filled
-abbrev pub filling : Machine → List ℕ → Turned
+abbrev pub filling : Machine → List ℕ → Event × Machine
 filling m block =
     if nat_lt m.filled (pieces block) then (Fill, record m { filled = m.filled + 1; window = with_piece m.window block m.filled })
     else (Publish, record m { published = m.published + 1; filled = 0; window = with_status m.window (take 4 block); situation = Published })
 
-abbrev pub offered : Machine → List (List ℕ) → Turned
-offered m [] = (Idle, m)
-offered m (block ∷ waiting) = filling m block
-
-abbrev pub firmware_turn : Machine → Situation → Turned
-firmware_turn m Filling = offered m (drop m.published m.blocks)
+abbrev pub firmware_turn : Machine → Situation → Event × Machine
+firmware_turn m Filling = elim (drop m.published m.blocks) [ [] ↦ (Idle, m) | block ∷ waiting ↦ filling m block ]
 firmware_turn m Published = (Wait, m)
 firmware_turn m Reading = (Wait, m)
 firmware_turn m Cleared = (Wait, m)
 firmware_turn m Acknowledged = (Free, record m { situation = Filling })
 
 -- the reader copies the block at work; at the last piece the block is taken
-abbrev pub reading : Machine → List ℕ → Turned
-reading m block =
-    if nat_lt (m.copied + 1) (pieces block) then (Copied, record m { copied = m.copied + 1 })
-    else if nat_lt m.copied (pieces block) then (Took, record m { copied = m.copied + 1; taken = m.taken + 1 })
-    else (Clear, record m { window = with_status m.window (spelled 4 0); situation = Cleared })
-
-abbrev pub reader_turn : Machine → Situation → Turned
+abbrev pub reader_turn : Machine → Situation → Event × Machine
 reader_turn m Filling = (Nothing, m)
 reader_turn m Published = (Found, record m { copied = 0; situation = Reading })
-reader_turn m Reading = reading m (at_work m)
+reader_turn m Reading =
+    if nat_lt (m.copied + 1) (pieces (at_work m)) then (Copied, record m { copied = m.copied + 1 })
+    else if nat_lt m.copied (pieces (at_work m)) then (Took, record m { copied = m.copied + 1; taken = m.taken + 1 })
+    else (Clear, record m { window = with_status m.window (spelled 4 0); situation = Cleared })
 reader_turn m Cleared = (Ack, record m { acknowledged = m.acknowledged + 1; situation = Acknowledged })
 reader_turn m Acknowledged = (Nothing, m)
 
-abbrev pub turned : Side → Machine → Turned
+-- one turn: the event, and the state afterwards
+abbrev pub turned : Side → Machine → Event × Machine
 turned Firmware m = firmware_turn m m.situation
 turned Reader m = reader_turn m m.situation
 
@@ -147,14 +133,12 @@ pub record IsEmptied (m : Machine) (ahead : ℕ) : Type 0 where
   pub none_filled : m.filled ≡ 0
   pub status : number_at m.window 0 4 ≡ 0
 
--- how many pieces are copied, and whether the block is taken
-abbrev pub IsReading : Machine → Type 0
-IsReading m = ((m.copied < pieces (at_work m)) × IsWhole m 0) ⊎ ((m.copied ≡ pieces (at_work m)) × IsWhole m 1)
-
+-- what holds in each situation; while the reader reads it is how many pieces are copied that says whether the block is taken
 abbrev pub InSituation : Machine → Situation → Type 0
 InSituation m Filling = IsFilling m
 InSituation m Published = IsWhole m 0
-InSituation m Reading = IsReading m
+InSituation m Reading =
+    ((m.copied < pieces (at_work m)) × IsWhole m 0) ⊎ ((m.copied ≡ pieces (at_work m)) × IsWhole m 1)
 InSituation m Cleared = IsEmptied m 1
 InSituation m Acknowledged = IsEmptied m 0
 

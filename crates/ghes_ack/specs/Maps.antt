@@ -1,12 +1,12 @@
 -- The three windows of a handover in memory: the block's address, the acknowledge register and the block.
 use Rattle.std.specs.Prelude.{◌≡◌, ℕ, ◌-◌, ◌*◌, ◌/◌, ◌%◌, ◌^◌, ◌<◌, ◌≤◌, List, [], ◌∷◌, bit_and, bit_or}
-use Rattle.base_model.specs.Bytes.{little, number_at, spelled}
+use Rattle.base_model.specs.Bytes.{little, spelled}
 use Rattle.apei_tables.specs.declared.registers.Place.TheVariants.{Memory}
 use Rattle.apei_tables.specs.Access.{bits}
 use Rattle.apei_space.specs.RamState.{RamState, FillsWindows, located, stored}
 use Rattle.apei_space.specs.Mapped.{AreMapped, AreDisjoint}
 use Rattle.ghes_ack.specs.declared.window.BlockWindow.{BlockWindow}
-pub use Rattle.ghes_ack.specs.Places.{bytes_in, bytes_at}
+pub use Rattle.ghes_ack.specs.Places.{bytes_at}
 use Rattle.ghes_ack.specs.declared.maps.HandoverMap.{HandoverMap}
 use Rattle.ghes_ack.specs.declared.events.Event.{Event}
 use Rattle.ghes_ack.specs.declared.events.Event.TheVariants.{Fill, Publish, Clear, Ack}
@@ -20,12 +20,9 @@ window_of map = record { block = map.block; len = map.len }
 abbrev pub ack_bytes : HandoverMap → ℕ
 ack_bytes map = bits map.ack.access / 8
 
--- the acknowledge bits, and the bits that an acknowledgement keeps, both moved up to the register's field
+-- the acknowledge bits, moved up to the register's field
 abbrev pub ack_mask : HandoverMap → ℕ
 ack_mask map = map.write * 2 ^ map.ack.offset % 2 ^ 64
-
-abbrev pub kept_mask : HandoverMap → ℕ
-kept_mask map = map.preserve * 2 ^ map.ack.offset % 2 ^ 64
 
 -- there is an acknowledge bit, and all of them lie in the register's access
 pub record HasAckBits (map : HandoverMap) : Type 0 where
@@ -43,18 +40,12 @@ pub record HasWindows (map : HandoverMap) (ram : RamState) : Type 0 where
   pub status_block : AreDisjoint (Memory map.status) 8 (Memory map.block) map.len
   pub ack_block : AreDisjoint map.ack.place (ack_bytes map) (Memory map.block) map.len
 
--- what the three windows hold
-abbrev pub address_in : HandoverMap → RamState → ℕ
-address_in map ram = little (bytes_at ram (Memory map.status) 8)
-
+-- what the acknowledge register and the block's window hold
 abbrev pub ack_read : HandoverMap → RamState → ℕ
 ack_read map ram = little (bytes_at ram map.ack.place (ack_bytes map))
 
 abbrev pub window : HandoverMap → RamState → List ℕ
 window map ram = bytes_at ram (Memory map.block) map.len
-
-abbrev pub status_word : HandoverMap → RamState → ℕ
-status_word map ram = number_at (window map ram) 0 4
 
 -- the acknowledge bits are set, or clear
 abbrev pub IsSet : HandoverMap → RamState → Type 0
@@ -73,21 +64,18 @@ with_ack map ram value = stored (located ram.windows map.ack.place (ack_bytes ma
 abbrev pub with_window : HandoverMap → RamState → List ℕ → RamState
 with_window map ram bytes = stored (located ram.windows (Memory map.block) map.len) ram bytes
 
--- a register with the acknowledge bits set and all else kept, with them clear and all else kept, and as the reader
--- acknowledges
-abbrev pub with_set : HandoverMap → ℕ → ℕ
-with_set map read = bit_or read (ack_mask map)
-
+-- a register with the acknowledge bits clear and all else kept, and as the reader acknowledges
 abbrev pub with_clear : HandoverMap → ℕ → ℕ
 with_clear map read = bit_and read (2 ^ 64 - 1 - ack_mask map)
 
 abbrev pub acknowledged : HandoverMap → ℕ → ℕ
-acknowledged map read = bit_or (bit_and read (kept_mask map)) (ack_mask map)
+acknowledged map read = bit_or (bit_and read (map.preserve * 2 ^ map.ack.offset % 2 ^ 64)) (ack_mask map)
 
 -- what a start leaves of a memory: the address, the acknowledge bits set, the status word 0, and all else as before
 abbrev pub memory_started : HandoverMap → RamState → RamState
 memory_started map ram =
-    with_window map (with_ack map (with_address map ram) (with_set map (ack_read map ram))) (with_status (window map ram) (spelled 4 0))
+    with_window map (with_ack map (with_address map ram) (bit_or (ack_read map ram) (ack_mask map)))
+    (with_status (window map ram) (spelled 4 0))
 
 -- what a turn leaves of a memory, where the window then holds these bytes: all else is as before, but that a publication
 -- clears the acknowledge bits, and an acknowledgement writes the register

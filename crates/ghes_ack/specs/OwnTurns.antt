@@ -1,6 +1,6 @@
 -- The turns of one side, by its own end of the handover, the blocks and the memory alone: nothing here knows the other side.
 use Rattle.std.specs.Prelude.{◌≡◌, ℕ, suc, ◌+◌, ◌*◌, ◌<◌, ◌≤◌, ◌^◌, List, [], ◌∷◌, ◌++◌, length, take, replicate, All, Some}
-use Rattle.base_model.specs.Bytes.{spelled}
+use Rattle.base_model.specs.Bytes.{spelled, number_at}
 use Rattle.ghes_ack.specs.Pieces.{read_over as pieces_over}
 use Rattle.apei_space.specs.RamState.{RamState}
 use Rattle.ghes_ack.specs.declared.maps.HandoverMap.{HandoverMap}
@@ -13,18 +13,18 @@ use Rattle.ghes_ack.specs.declared.ends.FirmwareEnd.{FirmwareEnd}
 use Rattle.ghes_ack.specs.declared.ends.FirmwareEnd.TheVariants.{Writes, Waits}
 use Rattle.ghes_ack.specs.declared.ends.ReaderEnd.{ReaderEnd}
 use Rattle.ghes_ack.specs.declared.ends.ReaderEnd.TheVariants.{Looks, Reads, Acknowledges}
-use Rattle.ghes_ack.specs.WindowQueues.{held_of}
-use Rattle.ghes_ack.specs.Queues.{Blocks, HasRoom}
+use Rattle.ghes_ack.specs.WindowQueues.{held_of, HasRoom}
 use Rattle.ghes_ack.specs.Machine.{Situation, Filling, Published, Reading, Cleared, Acknowledged, Fits, with_pieces, with_status}
-use Rattle.ghes_ack.specs.Maps.{HasAckBits, HasWindows, IsSet, IsClear, ack_read, window, status_word, with_window, with_ack, with_clear, acknowledged}
+use Rattle.ghes_ack.specs.Maps.{HasAckBits, HasWindows, IsSet, IsClear, ack_read, window, with_window, with_ack, with_clear, acknowledged, window_of}
 use Rattle.ghes_ack.specs.Handovers.{HandoverState, WithMemory, kept}
 use Rattle.ghes_ack.specs.Sides.{IsFar, state_of}
+use Rattle.ghes_ack.specs.declared.window_blocks.Blocks.{Blocks}
 
 -- a side can make turns: the memory has the windows, and each block at work or waiting fits into the block's
-pub record IsAble (b : Blocks) (ram : RamState) : Type 0 where
+pub record IsAble (b : Blocks HandoverMap) (ram : RamState) : Type 0 where
   pub windows : HasWindows b.map ram
   pub short : b.map.len < 2 ^ 32
-  pub room : HasRoom 0 b
+  pub room : HasRoom window_of 0 b
   pub fits : All (Fits b.map.len) (held_of b)
 
 -- some turns, for which there are places
@@ -53,7 +53,7 @@ abbrev pub FindsAck : HandoverMap → RamState → List Event → FirmwareEnd �
 FindsAck map ram events (Writes write) = IsSet map ram × (events ≡ Free ∷ [])
 FindsAck map ram events (Waits wait) = (¬ IsSet map ram) × (events ≡ Wait ∷ [])
 
-abbrev pub FirmwareRuns : FirmwareEnd → WithMemory Blocks → List Event → FirmwareEnd → WithMemory Blocks → Type 0
+abbrev pub FirmwareRuns : FirmwareEnd → WithMemory (Blocks HandoverMap) → List Event → FirmwareEnd → WithMemory (Blocks HandoverMap) → Type 0
 FirmwareRuns (Writes write) old events end new =
     FirmwareMakes (state_of Filling old.state) old.memory events (state_of (firmware_at end) new.state) new.memory
 FirmwareRuns (Waits wait) old events end new =
@@ -65,28 +65,25 @@ reader_at (Looks look) = Acknowledged
 reader_at (Reads read) = Reading
 reader_at (Acknowledges end) = Cleared
 
--- a block over whose next pieces those of the window are written
-abbrev pub read_over : HandoverMap → RamState → List ℕ → ℕ → ℕ → List ℕ
-read_over map ram block copied n = pieces_over (window map ram) block copied n
-
 -- turns of a reader that may read the block: it copies the next pieces, the last of them too, or it clears the block status once it has them all
 pub data ReaderMakes (old : HandoverState) (ram : RamState) (events : List Event) (new : HandoverState) (memory : RamState) : Type 0 where
   Copies : (count : ℕ) (block : List ℕ) → old.at_work ≡ Some block → 64 * (old.copied + count) < length block → events ≡ replicate count Copied →
-      new ≡ record old { at_work = Some (read_over old.map ram block old.copied count); copied = old.copied + count } → memory ≡ ram → ReaderMakes old ram events new memory
+      new ≡ record old { at_work = Some (pieces_over (window old.map ram) block old.copied count); copied = old.copied + count } →
+      memory ≡ ram → ReaderMakes old ram events new memory
   Takes : (count : ℕ) (block : List ℕ) → old.at_work ≡ Some block → 64 * (old.copied + count) < length block → length block ≤ 64 * (old.copied + suc count) →
       events ≡ replicate count Copied ++ Took ∷ [] →
       new ≡ record old {
-        at_work = Some (read_over old.map ram block old.copied (suc count));
+        at_work = Some (pieces_over (window old.map ram) block old.copied (suc count));
         copied = old.copied + suc count;
-        last = read_over old.map ram block old.copied (suc count);
+        last = pieces_over (window old.map ram) block old.copied (suc count);
       } → memory ≡ ram → ReaderMakes old ram events new memory
   Clears : (block : List ℕ) → old.at_work ≡ Some block → length block ≤ 64 * old.copied → events ≡ Clear ∷ [] → new ≡ record old { situation = Cleared } →
       memory ≡ with_window old.map ram (with_status (window old.map ram) (spelled 4 0)) → ReaderMakes old ram events new memory
 
 -- a turn of a reader that looks for a block: there is one exactly where the block status isn't 0, and none of its pieces is copied
-abbrev pub FindsBlock : Blocks → RamState → List Event → ReaderEnd → Blocks → Type 0
-FindsBlock old ram events (Looks look) new = (status_word old.map ram ≡ 0) × (events ≡ Nothing ∷ []) × (new ≡ old)
-FindsBlock old ram events (Reads read) new = (0 < status_word old.map ram) × (events ≡ Found ∷ []) × (new ≡ record old { copied = 0 })
+abbrev pub FindsBlock : Blocks HandoverMap → RamState → List Event → ReaderEnd → Blocks HandoverMap → Type 0
+FindsBlock old ram events (Looks look) new = (number_at (window old.map ram) 0 4 ≡ 0) × (events ≡ Nothing ∷ []) × (new ≡ old)
+FindsBlock old ram events (Reads read) new = (0 < number_at (window old.map ram) 0 4) × (events ≡ Found ∷ []) × (new ≡ record old { copied = 0 })
 FindsBlock old ram events (Acknowledges end) new = ⊥
 
 -- a reader that has acknowledged looks for the next block
@@ -96,12 +93,12 @@ LooksAgain (Reads read) = ⊥
 LooksAgain (Acknowledges end) = ⊥
 
 -- a reader that read goes on with its block
-abbrev pub GoesOn : ReaderEnd → ReaderEnd → Blocks → Type 0
+abbrev pub GoesOn : ReaderEnd → ReaderEnd → Blocks HandoverMap → Type 0
 GoesOn (Looks look) end new = Unit {0}
 GoesOn (Reads read) end new = IsFar end new
 GoesOn (Acknowledges acknowledge) end new = Unit {0}
 
-abbrev pub ReaderRuns : ReaderEnd → WithMemory Blocks → List Event → ReaderEnd → WithMemory Blocks → Type 0
+abbrev pub ReaderRuns : ReaderEnd → WithMemory (Blocks HandoverMap) → List Event → ReaderEnd → WithMemory (Blocks HandoverMap) → Type 0
 ReaderRuns (Looks look) old events end new = FindsBlock old.state old.memory events end new.state × (new.memory ≡ old.memory)
 ReaderRuns (Reads read) old events end new =
     ReaderMakes (state_of Reading old.state) old.memory events (state_of (reader_at end) new.state) new.memory
@@ -111,12 +108,12 @@ ReaderRuns (Acknowledges acknowledge) old events end new =
     × (new.memory ≡ with_ack map old.memory (acknowledged map (ack_read map old.memory))) × (HasAckBits map → IsSet map new.memory)
 
 -- a side can make turns: of the other side nothing is known
-abbrev pub SideIsAble : Side → Ends → Blocks → RamState → Type 0
+abbrev pub SideIsAble : Side → Ends → Blocks HandoverMap → RamState → Type 0
 SideIsAble Firmware ends b ram = IsAble b ram
 SideIsAble Reader ends b ram = IsAble b ram × IsFar ends.reader b
 
 -- turns of a side by its own end, the blocks and the memory. The other side stays where it is
-abbrev pub SideRuns : Side → Ends → WithMemory Blocks → List Event → Ends → WithMemory Blocks → Type 0
+abbrev pub SideRuns : Side → Ends → WithMemory (Blocks HandoverMap) → List Event → Ends → WithMemory (Blocks HandoverMap) → Type 0
 SideRuns Firmware ends old events next new = FirmwareRuns ends.firmware old events next.firmware new × (next.reader ≡ ends.reader)
 SideRuns Reader ends old events next new =
     ReaderRuns ends.reader old events next.reader new × GoesOn ends.reader next.reader new.state × (next.firmware ≡ ends.firmware)

@@ -1,30 +1,25 @@
 -- The two sides and the blocks of a handover, and what they are together.
-use Rattle.std.specs.Prelude.{◌≡◌, ℕ, ◌*◌, ◌<◌, ◌≤◌, List, Vec, Option, Some, None, ◌^◌, length, get_or, map}
+use Rattle.std.specs.Prelude.{◌≡◌, ℕ, ◌*◌, ◌<◌, ◌≤◌, List, Vec, Option, Some, None, ◌^◌, length, map}
 use Rattle.std.specs.declared.alloc.Global.{Global}
 use Rattle.apei_space.specs.RamState.{RamState}
 use Rattle.ghes_ack.specs.declared.events.Side.{Side}
 use Rattle.ghes_ack.specs.declared.events.Event.{Event}
-use Rattle.ghes_ack.specs.declared.events.Event.TheVariants.{Idle}
 use Rattle.ghes_ack.specs.Elsewhere.{SameWhere, IsOffBlock}
 use Rattle.ghes_ack.specs.declared.ends.Ends.{Ends}
 use Rattle.ghes_ack.specs.declared.ends.FirmwareEnd.{FirmwareEnd}
 use Rattle.ghes_ack.specs.declared.ends.FirmwareEnd.TheVariants.{Writes, Waits}
 use Rattle.ghes_ack.specs.declared.ends.ReaderEnd.{ReaderEnd}
 use Rattle.ghes_ack.specs.declared.ends.ReaderEnd.TheVariants.{Looks, Reads, Acknowledges}
-use Rattle.ghes_ack.specs.declared.window_blocks.Blocks.{Blocks as BlocksOver}
-use Rattle.ghes_ack.specs.WindowQueues.{bytes_of}
-use Rattle.ghes_ack.specs.Queues.{Blocks, HasRoom}
+use Rattle.ghes_ack.specs.declared.window_blocks.Blocks.{Blocks}
+use Rattle.ghes_ack.specs.WindowQueues.{bytes_of, HasRoom}
 use Rattle.ghes_ack.specs.Machine.{Machine, Situation, Filling, Published, Reading, Cleared, Acknowledged}
-use Rattle.ghes_ack.specs.Maps.{HasAckBits, window, memory_after, AreLeft}
+use Rattle.ghes_ack.specs.Maps.{HasAckBits, window, memory_after, AreLeft, window_of}
 use Rattle.ghes_ack.specs.Handovers.{HandoverOver, HandoverState, WithMemory, StandsFor, IsTurned, AreTurned}
+use Rattle.ghes_ack.specs.declared.maps.HandoverMap.{HandoverMap}
 
 -- while the firmware waits and the reader looks, there is a block at work until it is acknowledged
-abbrev pub looking_at : Option (Vec ℕ Global) → Situation
-looking_at None = Acknowledged
-looking_at (Some block) = Published
-
 abbrev pub waiting_at : ReaderEnd → Option (Vec ℕ Global) → Situation
-waiting_at (Looks look) work = looking_at work
+waiting_at (Looks look) work = elim work [ None ↦ Acknowledged | Some block ↦ Published ]
 waiting_at (Reads read) work = Reading
 waiting_at (Acknowledges end) work = Cleared
 
@@ -44,7 +39,7 @@ in_work Cleared (Some block) last = Some block.items
 in_work Acknowledged work last = bytes_of work
 
 -- what the blocks are in a situation
-abbrev pub state_of : {M : Type 0} → Situation → BlocksOver M → HandoverOver M
+abbrev pub state_of : {M : Type 0} → Situation → Blocks M → HandoverOver M
 state_of situation b = record {
   map = b.map;
   situation = situation;
@@ -55,7 +50,7 @@ state_of situation b = record {
   last = b.last.items;
 }
 
-abbrev pub handover_of : {M : Type 0} → Ends → BlocksOver M → HandoverOver M
+abbrev pub handover_of : {M : Type 0} → Ends → Blocks M → HandoverOver M
 handover_of ends b = state_of (situation_of ends.firmware ends.reader b.at_work) b
 
 -- a published block is at work until its last piece is copied
@@ -64,7 +59,7 @@ IsCopiedSoFar copied None last = length last.items ≤ 64 * copied
 IsCopiedSoFar copied (Some block) last = 64 * copied < length block.items
 
 -- where the reader is, as far as its block goes
-abbrev pub IsFar : ReaderEnd → Blocks → Type 0
+abbrev pub IsFar : ReaderEnd → Blocks HandoverMap → Type 0
 IsFar (Looks look) b = Unit {0}
 IsFar (Reads read) b = IsCopiedSoFar b.copied b.at_work b.last
 IsFar (Acknowledges end) b = b.at_work ≡ None
@@ -77,22 +72,18 @@ AreApart (Writes write) (Acknowledges end) = ⊥
 AreApart (Waits wait) reader = Unit {0}
 
 -- the sides and the blocks belong together
-pub record IsConsistent (ends : Ends) (b : Blocks) : Type 0 where
+pub record IsConsistent (ends : Ends) (b : Blocks HandoverMap) : Type 0 where
   pub bits : HasAckBits b.map
   pub short : b.map.len < 2 ^ 32
-  pub room : HasRoom 0 b
+  pub room : HasRoom window_of 0 b
   pub apart : AreApart ends.firmware ends.reader
   pub far : IsFar ends.reader b
 
 -- the two sides are always there between two calls
-abbrev pub situation_in : Option Ends → Option (Vec ℕ Global) → Situation
-situation_in None work = Filling
-situation_in (Some ends) work = situation_of ends.firmware ends.reader work
+abbrev pub view_of : {M : Type 0} → Option Ends → Blocks M → HandoverOver M
+view_of ends b = state_of (elim ends [ None ↦ Filling | Some both ↦ situation_of both.firmware both.reader b.at_work ]) b
 
-abbrev pub view_of : {M : Type 0} → Option Ends → BlocksOver M → HandoverOver M
-view_of ends b = state_of (situation_in ends b.at_work) b
-
-abbrev pub AreConsistent : Option Ends → Blocks → Type 0
+abbrev pub AreConsistent : Option Ends → Blocks HandoverMap → Type 0
 AreConsistent None b = ⊥
 AreConsistent (Some ends) b = IsConsistent ends b
 
@@ -101,13 +92,6 @@ pub record Turns (side : Side) (event : Event) (old new : WithMemory HandoverSta
   pub turned : IsTurned side event new.state new.memory m
   pub map : new.state.map ≡ old.state.map
   pub memory_is : new.memory ≡ memory_after old.state.map event old.memory (window old.state.map new.memory)
-
--- turns of a side, one after another, that leave of the memory what one of their first event leaves: one turn, or pieces
-pub record Runs (side : Side) (events : List Event) (old new : WithMemory HandoverState) (m : Machine) : Type 0 where
-  pub turned : AreTurned side (length events) events new.state new.memory m
-  pub map : new.state.map ≡ old.state.map
-  pub memory_is : new.memory ≡ memory_after old.state.map (get_or events 0 Idle) old.memory (window old.state.map new.memory)
-  pub left : AreLeft old.state.map events old.memory new.memory
 
 -- turns of a side, one after another
 pub record MakesTurns (side : Side) (events : List Event) (old new : WithMemory HandoverState) (m : Machine) : Type 0 where

@@ -1,5 +1,5 @@
 -- The blocks of a handover, over a map that says where their window lies.
-use Rattle.std.specs.Prelude.{◌≡◌, ℕ, ◌+◌, ◌≤◌, List, Vec, Option, Some, None, option_to_list, [], ◌∷◌, ◌++◌, length, map, All, vec_len, vec_capacity}
+use Rattle.std.specs.Prelude.{◌≡◌, ℕ, ◌+◌, ◌≤◌, List, Vec, Option, Some, None, option_to_list, IfSome, [], ◌∷◌, ◌++◌, length, map, All, vec_len, vec_capacity}
 use Rattle.std.specs.VecDeque.{deque_len, deque_capacity}
 use Rattle.std.specs.declared.alloc.Global.{Global}
 use Rattle.ghes_ack.specs.declared.window.BlockWindow.{BlockWindow}
@@ -18,10 +18,6 @@ bytes_of (Some block) = Some block.items
 abbrev pub IsWide : ℕ → Vec ℕ Global → Type 0
 IsWide len v = len ≤ vec_capacity v
 
-abbrev pub IsWideIfSome : ℕ → Option (Vec ℕ Global) → Type 0
-IsWideIfSome len None = Unit {0}
-IsWideIfSome len (Some v) = IsWide len v
-
 -- 66 places, so many of them in hand: for blocks that wait, of which there are at most 64, for the one at work and for the
 -- one taken last, each with room for the longest block
 pub record HasRoom {M : Type 0} (window_of : M → BlockWindow) (in_hand : ℕ) (b : Blocks M) : Type 0 where
@@ -31,7 +27,7 @@ pub record HasRoom {M : Type 0} (window_of : M → BlockWindow) (in_hand : ℕ) 
   pub queue : 64 ≤ deque_capacity b.waiting
   pub stack : 65 ≤ vec_capacity b.spare
   pub waiting_room : All (IsWide (window_of b.map).len) b.waiting.items
-  pub work_room : IsWideIfSome (window_of b.map).len b.at_work
+  pub work_room : IfSome b.at_work (IsWide (window_of b.map).len)
   pub spare_room : All (IsWide (window_of b.map).len) b.spare.items
   pub last_room : IsWide (window_of b.map).len b.last
 

@@ -1,11 +1,12 @@
 // A handover of blocks, turn by turn.
 ghost use Rattle.std.specs.Prelude.{◌≡◌, ◌∷◌, ◌++◌, [], length, IfOk, OnOk, OnErr, MatchOption, MatchResult, Some, None};
 ghost use Rattle.apei_space.specs.RamState.{RamState};
-ghost use Rattle.ghes_ack.specs.Machine.{Machine, started, submitted, waiting_in, is_idle};
+ghost use Rattle.ghes_ack.specs.Machine.{Machine, started, submitted, is_idle};
 ghost use Rattle.ghes_ack.specs.Maps.{HasAckBits, HasWindows, window, memory_started, memory_after, AreLeft};
 ghost use Rattle.ghes_ack.specs.Elsewhere.{SameWhere, IsOffMap, IsOffBlock};
 ghost use Rattle.ghes_ack.specs.Sides.{Stands, Turns, MakesTurns};
-ghost use Rattle.ghes_ack.specs.Handovers.{StandsFor, IsTurned, AreTurned, fresh, refusal, over};
+ghost use Rattle.ghes_ack.specs.Handovers.{StandsFor, IsTurned, AreTurned, fresh, over};
+ghost use Rattle.ghes_ack.specs.Submissions.{refusal_of};
 
 use crate::blocks::Blocks;
 use crate::ends::{Ends, ReaderEnd, begin_with_register};
@@ -62,8 +63,8 @@ impl Handover {
         ensures number { IfOk result (λ waiting. waiting ≡ length self.new.waiting) }
         ensures stands { OnOk result ((ram : RamState) (m : Machine) → StandsFor self.old ram m
             → StandsFor self.new ram (submitted m block.now)) }
-        ensures exact { MatchResult result (λ _. refusal self.old block.now ≡ None)
-            (λ error. refusal self.old block.now ≡ Some error) }
+        ensures exact { let refused = refusal_of self.old.map.len block.now (length self.old.waiting)
+            in MatchResult result (λ _. refused ≡ None) (λ error. refused ≡ Some error) }
         ensures refused { OnErr result (self.new ≡ self.old) }
     {
         if let Err(error) = check_block(block, self.blocks.map.len, self.blocks.waiting.len()) {
@@ -76,7 +77,7 @@ impl Handover {
     /// One turn of a side, over the memory that it was begun with. Between two turns others may write anything but its three
     /// windows.
     pub fn turn(&mut self, side: Side, ram: &mut Ram) -> Event
-        requires { (m : Machine) × StandsFor self.old ram.old m }
+        requires { Stands self.old ram.old }
         ensures turned { (m : Machine) → StandsFor self.old ram.old m → IsTurned side result self.new ram.new m }
         ensures memory { ram.new ≡ memory_after self.old.map result ram.old (window self.old.map ram.new) }
         ensures elsewhere { SameWhere (IsOffBlock self.old.map) ram.old ram.new }
@@ -92,7 +93,7 @@ impl Handover {
 
     /// As many turns of a side as there are places for their events, over the memory that it was begun with.
     pub fn turns(&mut self, side: Side, events: &mut [Event], ram: &mut Ram)
-        requires { (m : Machine) × StandsFor self.old ram.old m }
+        requires { Stands self.old ram.old }
         ensures turned { (m : Machine) → StandsFor self.old ram.old m
             → AreTurned side (length events.old) events.new self.new ram.new m }
         ensures memory { AreLeft self.old.map events.new ram.old ram.new }

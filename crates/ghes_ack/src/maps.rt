@@ -2,7 +2,7 @@
 ghost use Rattle.std.specs.Prelude.{◌≡◌, ◌*◌, ◌%◌, ◌^◌, ◌<◌, ◌≤◌, length, IsTrue, ◌↔◌, bit_and, bit_or};
 ghost use Rattle.base_model.specs.Bytes.{number_at};
 ghost use Rattle.apei_tables.specs.Access.{bits};
-ghost use Rattle.ghes_ack.specs.Maps.{HasAckBits, HasWindows, IsSet, ack_mask, kept_mask, ack_read, with_ack, with_address, with_set, acknowledged};
+ghost use Rattle.ghes_ack.specs.Maps.{HasAckBits, HasWindows, IsSet, ack_mask, ack_read, with_ack, with_address, acknowledged};
 ghost use Rattle.ghes_ack.specs.Publications.{ClearsThenShows};
 
 use crate::{BlockWindow, HasWindow};
@@ -52,7 +52,7 @@ impl HandoverMap {
 
     /// The bits that an acknowledgement keeps.
     fn kept_mask(&self) -> u64
-        ensures { result ≡ kept_mask self.now }
+        ensures { result ≡ self.now.preserve * 2 ^ self.now.ack.offset % 2 ^ 64 }
     {
         moved_up(self.preserve, self.ack.offset)
     }
@@ -96,7 +96,7 @@ impl HandoverMap {
     /// Sets the acknowledge bits.
     pub(crate) fn set_ack(&self, ram: &mut Ram)
         requires { HasWindows self.now ram.old }
-        ensures memory { ram.new ≡ with_ack self.now ram.old (with_set self.now (ack_read self.now ram.old)) }
+        ensures memory { ram.new ≡ with_ack self.now ram.old (bit_or (ack_read self.now ram.old) (ack_mask self.now)) }
         ensures set { HasAckBits self.now → IsSet self.now ram.new }
     {
         let value = self.read_ack(ram) | self.ack_mask();

@@ -2,7 +2,7 @@
 ghost use Rattle.std.specs.Prelude.{◌≡◌, ◌+◌, ◌*◌, ◌<◌, ◌≤◌, length, take, drop, MatchResult};
 ghost use Rattle.base_model.specs.Bytes.{part, number_at, spelled};
 ghost use Rattle.ghes_ack.specs.Machine.{with_piece, with_status};
-ghost use Rattle.ghes_ack.specs.Maps.{HasAckBits, HasWindows, IsSet, IsClear, ack_read, window, status_word, with_window, with_ack, with_clear, acknowledged, memory_started};
+ghost use Rattle.ghes_ack.specs.Maps.{HasAckBits, HasWindows, IsSet, IsClear, ack_read, window, with_window, with_ack, with_clear, acknowledged, memory_started};
 
 use crate::ends::{MayRead, MayWrite, MustAcknowledge, MustLook, MustWait, begin_with_register};
 use crate::maps::HandoverMap;
@@ -148,8 +148,8 @@ impl OsIdle {
     /// There is a block exactly where the block status isn't 0.
     pub fn poll(self, ram: &Ram) -> Result<OsBlock, OsIdle>
         requires { HasWindows self ram.now }
-        ensures { MatchResult result (λ block. (block ≡ self) × (0 < status_word self ram.now))
-            (λ idle. (idle ≡ self) × (status_word self ram.now ≡ 0)) }
+        ensures { MatchResult result (λ block. (block ≡ self) × (0 < number_at (window self ram.now) 0 4))
+            (λ idle. (idle ≡ self) × (number_at (window self ram.now) 0 4 ≡ 0)) }
     {
         let OsIdle { map, end } = self;
         match end.poll(&map, ram) {

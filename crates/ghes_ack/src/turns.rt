@@ -1,10 +1,11 @@
 // The turns of both sides.
 ghost use Rattle.std.specs.Prelude.{◌≡◌, ◌∷◌, [], ◌<◌, length, take, MatchOption};
 ghost use Rattle.ghes_ack.specs.Machine.{Machine};
-ghost use Rattle.ghes_ack.specs.Queues.{HasRoom};
 ghost use Rattle.ghes_ack.specs.Handovers.{StandsFor, over};
 ghost use Rattle.ghes_ack.specs.Sides.{Stands, MakesTurns, IsConsistent, handover_of};
 ghost use Rattle.ghes_ack.specs.OwnTurns.{IsCount, SideIsAble, SideRuns};
+ghost use Rattle.ghes_ack.specs.Maps.{window_of};
+ghost use Rattle.ghes_ack.specs.WindowQueues.{HasRoom};
 
 use crate::blocks::{Blocks, copy_in_place, fill_in_place, firmware_run, reader_run};
 use crate::ends::{Ends, FirmwareEnd, ReaderEnd};
@@ -16,7 +17,7 @@ use apei_space::Ram;
 /// other one what the memory shows.
 pub fn piece_turn(side: Side, ends: &Ends, blocks: &mut Blocks, ram: &mut Ram) -> Option<Event>
     requires { SideIsAble side ends.now blocks.old ram.old }
-    ensures room { HasRoom 0 blocks.new }
+    ensures room { HasRoom window_of 0 blocks.new }
     ensures runs { MatchOption result
         ((blocks.new ≡ blocks.old) × (ram.new ≡ ram.old))
         (λ event. SideRuns side ends.now (over blocks.old ram.old) (event ∷ []) ends.now (over blocks.new ram.new)) }
@@ -76,7 +77,7 @@ fn run_of(
 ) -> (Ends, usize)
     requires able { SideIsAble side ends blocks.old ram.old }
     requires some { 0 < length events.old }
-    ensures room { HasRoom 0 blocks.new }
+    ensures room { HasRoom window_of 0 blocks.new }
     ensures count { IsCount result.1 (length events.old) }
     ensures runs { SideRuns side ends (over blocks.old ram.old) (take result.1 events.new) result.0
         (over blocks.new ram.new) }

@@ -9,8 +9,16 @@ use Rattle.apei_bytes.proofs.Parts.{parts, joined-parts, parts_of, number_of, pa
 use Rattle.apei_bytes.proofs.Tests.{ok_unless}
 use Rattle.ghes_block.specs.declared.error.BlockError.{BlockError}
 use Rattle.ghes_block.specs.declared.error.BlockError.TheVariants.{Need, NotPublished, RawOffset}
-use Rattle.ghes_block.specs.Grammar.{BlockValue, entries_bytes, block_head, RawIs, IsBlock}
-use Rattle.ghes_block.specs.Reading.{entries_in, count_in, status_at, raw_offset, raw_length, data_length, data_of, entry_count, block_of, length_if_there, checked}
+use Rattle.ghes_block.specs.Grammar.{BlockValue, entries_bytes, RawIs, IsBlock}
+use Rattle.ghes_block.proofs.Terms.{block_head}
+use Rattle.ghes_block.specs.Reading.{entry_count, block_of, length_if_there, checked}
+use Rattle.ghes_block.proofs.Terms.{data_of}
+use Rattle.ghes_block.proofs.Terms.{entries_in}
+use Rattle.ghes_block.proofs.Terms.{count_in}
+use Rattle.ghes_block.proofs.Terms.{data_length}
+use Rattle.ghes_block.proofs.Terms.{raw_length}
+use Rattle.ghes_block.proofs.Terms.{raw_offset}
+use Rattle.ghes_block.proofs.Terms.{status_at}
 use Rattle.ghes_block.proofs.Walks.{counts, counts_again}
 
 -- how long the block is, by its head

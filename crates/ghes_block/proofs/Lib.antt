@@ -1,3 +1,4 @@
+pub mod Terms
 pub mod EntryLaws
 pub mod Walks
 pub mod Blocks

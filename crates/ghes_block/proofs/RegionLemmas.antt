@@ -11,7 +11,8 @@ use Rattle.ghes_block.specs.Reading.{checked}
 use Rattle.apei_bytes.proofs.Parts.{number_at-front}
 use Rattle.ghes_block.proofs.Blocks.{found_again}
 use Rattle.ghes_block.proofs.Whole.{block_has_head}
-use Rattle.ghes_block.specs.Region.{IsOneBlock, ends, IsListOf, zeros, IsLaidOut, read_at, FindsNext}
+use Rattle.ghes_block.specs.Region.{IsOneBlock, ends, IsListOf, zeros, IsLaidOut, FindsNext}
+use Rattle.ghes_block.proofs.Terms.{read_at}
 
 length-zeros : (n : ℕ) → length (zeros n) ≡ n
 length-zeros n = length-replicate {A = ℕ} n 0

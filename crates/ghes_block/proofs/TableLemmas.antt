@@ -8,7 +8,8 @@ use Rattle.apei_tables.specs.declared.headers.TableError.{TableError}
 use Rattle.apei_tables.specs.Tables.{FindsTable, refusal}
 use Rattle.apei_tables.proofs.Finding.{size-front, none_refused}
 use Rattle.ghes_block.specs.declared.table.Bert.{Bert}
-use Rattle.ghes_block.specs.Table.{signature, IsBert}
+use Rattle.ghes_block.specs.Table.{IsBert}
+use Rattle.ghes_block.proofs.Terms.{signature}
 
 split : (bytes : List ℕ) (header : Header) (table : List ℕ) → FindsTable signature 48 bytes header table → bytes ≡ table ++ drop (length table) bytes
 split bytes header table found = sym (take-append-drop (length table) bytes) ∙ ap (λ (xs : List ℕ). xs ++ drop (length table) bytes) (sym found.prefix)

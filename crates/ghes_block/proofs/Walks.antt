@@ -10,7 +10,9 @@ use Rattle.apei_bytes.proofs.Tests.{ok_unless}
 use Rattle.apei_bytes.proofs.Walks.{GetsOn, IsFaithful, count_on, counts as items_counted, counts_again as items_again}
 use Rattle.ghes_block.specs.declared.error.BlockError.TheVariants.{Entry, Rest}
 use Rattle.ghes_block.specs.Grammar.{EntryValue, entry_bytes, entries_bytes, IsEntry}
-use Rattle.ghes_block.specs.Reading.{entry_size, first_entry, whole_entry_size, entry_walk, entries_in, count_in}
+use Rattle.ghes_block.specs.Reading.{entry_size, first_entry, whole_entry_size, entry_walk}
+use Rattle.ghes_block.proofs.Terms.{entries_in}
+use Rattle.ghes_block.proofs.Terms.{count_in}
 use Rattle.ghes_block.proofs.EntryLaws.{reads_again, reads, entry_size-le}
 
 -- an entry that is whole, and the two that aren't

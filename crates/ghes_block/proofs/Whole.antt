@@ -12,7 +12,13 @@ use Rattle.ghes_block.specs.declared.entry.EntryHead.{EntryHead}
 use Rattle.ghes_block.specs.declared.error.BlockError.{BlockError}
 use Rattle.ghes_block.specs.declared.error.BlockError.TheVariants.{Need, NotPublished, RawOffset}
 use Rattle.ghes_block.specs.Grammar.{EntryValue, BlockValue, entry_bytes, entries_bytes, IsEntry, IsBlock}
-use Rattle.ghes_block.specs.Reading.{head_size, entry_size, entry_head_at, first_entry, count_in, status_at, raw_offset, raw_length, data_length, data_of, entry_count, block_of, length_if_there, checked, IsWhole, IsReadBlock}
+use Rattle.ghes_block.specs.Reading.{head_size, entry_size, entry_head_at, first_entry, entry_count, block_of, length_if_there, checked, IsReadBlock}
+use Rattle.ghes_block.proofs.Terms.{data_of}
+use Rattle.ghes_block.proofs.Terms.{count_in}
+use Rattle.ghes_block.proofs.Terms.{data_length}
+use Rattle.ghes_block.proofs.Terms.{raw_length}
+use Rattle.ghes_block.proofs.Terms.{raw_offset}
+use Rattle.ghes_block.proofs.Terms.{status_at}
 use Rattle.ghes_block.specs.Entries.{place_of, HasHead, IsPlace, EntryAt, RestAt}
 use Rattle.ghes_block.proofs.Walks.{counts, first_of}
 use Rattle.ghes_block.proofs.Blocks.{head_verdict, Passed, passed, passes, block_length, passed_front, same_count, entries_within, is_block, found_again, reads_again}
@@ -116,7 +122,7 @@ block_has_head value bytes is =
     let same : block_of (take (length bytes) bytes) ≡ value = ap block_of (take_all (length bytes) bytes (omega arith)) ∙ (reads_again value bytes is).value_is in
     subst (λ (v : BlockValue). HasHead bytes v (length bytes)) same (head_there bytes (length bytes) found)
 
-pub whole_block : (bytes : List ℕ) → AreBytes bytes → IsWhole bytes → IsBlock (block_of bytes) bytes
+pub whole_block : (bytes : List ℕ) → AreBytes bytes → (checked bytes ≡ Ok (length bytes)) → IsBlock (block_of bytes) bytes
 whole_block bytes h w = let p = passed bytes (length bytes) w in is_block bytes h p.0 p.1
 
 pub only_found : (bytes : List ℕ) (len : ℕ) (value : BlockValue) (n : ℕ) → checked bytes ≡ Ok len → n ≤ length bytes → IsBlock value (take n bytes) → (block_of (take len bytes) ≡ value) × (len ≡ n)

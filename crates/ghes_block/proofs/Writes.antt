@@ -10,7 +10,8 @@ use Rattle.apei_bytes.specs.Writing.{Wrote}
 use Rattle.apei_bytes.proofs.Parts.{parts, parts-joined, number_of, part-take}
 use Rattle.apei_bytes.proofs.Puts.{wrote_there, wrote_others, wrote_then}
 use Rattle.ghes_block.specs.declared.entry.EntryHead.{EntryHead}
-use Rattle.ghes_block.specs.Grammar.{EntryValue, is_stamped, entry_front, entry_bytes, entries_bytes, block_head, RawIs, IsEntry}
+use Rattle.ghes_block.specs.Grammar.{EntryValue, is_stamped, entry_front, entry_bytes, entries_bytes, RawIs, IsEntry}
+use Rattle.ghes_block.proofs.Terms.{block_head}
 use Rattle.ghes_block.specs.Writer.{entry_length, offset_for, Writing, IsWritten}
 use Rattle.ghes_block.proofs.EntryLaws.{stamp_bytes}
 use Rattle.ghes_block.proofs.Blocks.{length-head, head_sizes, head_sized}

@@ -59,11 +59,6 @@ pub record IsEntry (entry : EntryValue) : Type 0 where
   pub head : IsEntryHead entry.head
   pub short : length entry.body < 2 ^ 32
 
--- the fields of a block's head, 20 bytes
-abbrev pub block_head : ℕ → ℕ → ℕ → ℕ → ℕ → List (List ℕ)
-block_head status raw_offset raw_length data_length severity =
-    spelled 4 status ∷ spelled 4 raw_offset ∷ spelled 4 raw_length ∷ spelled 4 data_length ∷ spelled 4 severity ∷ []
-
 -- the raw data is a part behind the entries, at which the block ends; without raw data the block ends with the entries
 abbrev pub RawIs : List ℕ → List ℕ → ℕ → ℕ → Type 0
 RawIs bytes [] offset data_len = length bytes ≡ 20 + data_len
@@ -79,5 +74,8 @@ pub record IsBlock (value : BlockValue) (bytes : List ℕ) : Type 0 where
   pub raw : length value.raw < 2 ^ 32
   pub size : value.size ≡ length bytes
   pub spelling : (offset : ℕ) × (rest : List ℕ) × (offset < 2 ^ 32)
-      × (bytes ≡ joined (block_head value.status offset (length value.raw) (length (entries_bytes value.entries)) value.severity) ++ entries_bytes value.entries ++ rest)
+      × (bytes ≡ joined
+      (spelled 4 value.status ∷ spelled 4 offset ∷ spelled 4 (length value.raw)
+      ∷ spelled 4 (length (entries_bytes value.entries)) ∷ spelled 4 value.severity ∷ [])
+      ++ entries_bytes value.entries ++ rest)
       × RawIs bytes value.raw offset (length (entries_bytes value.entries))

@@ -41,41 +41,23 @@ whole_entry_size index at rest =
 abbrev pub entry_walk : Walk EntryValue BlockError
 entry_walk = record { ends = λ rest. length rest == 0; size = whole_entry_size; item = λ at rest len. first_entry rest }
 
--- the entries of a block's data, which begins at 20, and how many there are, or the first fault
-abbrev pub entries_in : List ℕ → List EntryValue
-entries_in content = items_in entry_walk (length content) 0 20 content
-
-abbrev pub count_in : List ℕ → Result ℕ BlockError
-count_in content = item_count entry_walk (length content) 0 20 content
-
--- the numbers of a block's head
-abbrev pub status_at : List ℕ → ℕ
-status_at bytes = number_at bytes 0 4
-
-abbrev pub raw_offset : List ℕ → ℕ
-raw_offset bytes = number_at bytes 4 4
-
-abbrev pub raw_length : List ℕ → ℕ
-raw_length bytes = number_at bytes 8 4
-
-abbrev pub data_length : List ℕ → ℕ
-data_length bytes = number_at bytes 12 4
-
-abbrev pub data_of : List ℕ → List ℕ
-data_of bytes = part bytes 20 (data_length bytes)
-
+-- how many entries the block's data has, which begins at 20, or the first fault
 unfoldable pub entry_count : List ℕ → Result ℕ BlockError
-entry_count bytes = count_in (data_of bytes)
+entry_count bytes =
+    let content = part bytes 20 (number_at bytes 12 4) in
+    item_count entry_walk (length content) 0 20 content
 
 -- the block that the bytes are
 unfoldable pub block_of : List ℕ → BlockValue
-block_of bytes = record {
-  status = status_at bytes;
-  severity = number_at bytes 16 4;
-  entries = entries_in (data_of bytes);
-  raw = part bytes (raw_offset bytes) (raw_length bytes);
-  size = length bytes;
-}
+block_of bytes =
+    let content = part bytes 20 (number_at bytes 12 4) in
+    record {
+      status = number_at bytes 0 4;
+      severity = number_at bytes 16 4;
+      entries = items_in entry_walk (length content) 0 20 content;
+      raw = part bytes (number_at bytes 4 4) (number_at bytes 8 4);
+      size = length bytes;
+    }
 
 -- the length where so many bytes are there, and the entries have no fault
 abbrev pub length_if_there : ℕ → ℕ → Result ℕ BlockError → Result ℕ BlockError
@@ -85,18 +67,17 @@ length_if_there have len counted =
 -- the length of the block that the bytes begin with, or the first check that fails
 unfoldable pub checked : List ℕ → Result ℕ BlockError
 checked bytes =
+    let raw_offset = number_at bytes 4 4 in
+    let raw_length = number_at bytes 8 4 in
+    let data_end = 20 + number_at bytes 12 4 in
     if nat_lt (length bytes) 20 then Err (Need (20 - length bytes))
-    else if status_at bytes == 0 then Err NotPublished
-    else if raw_length bytes == 0 then length_if_there (length bytes) (20 + data_length bytes) (entry_count bytes)
-    else if nat_lt (raw_offset bytes) (20 + data_length bytes) then Err (RawOffset (raw_offset bytes))
-    else length_if_there (length bytes) (raw_offset bytes + raw_length bytes) (entry_count bytes)
-
--- the bytes are one block, all of them
-abbrev pub IsWhole : List ℕ → Type 0
-IsWhole bytes = checked bytes ≡ Ok (length bytes)
+    else if number_at bytes 0 4 == 0 then Err NotPublished
+    else if raw_length == 0 then length_if_there (length bytes) data_end (entry_count bytes)
+    else if nat_lt raw_offset data_end then Err (RawOffset raw_offset)
+    else length_if_there (length bytes) (raw_offset + raw_length) (entry_count bytes)
 
 -- what is known of the bytes of a block that was read: they are all of it, and it has so many entries
 pub record IsReadBlock (bytes : List ℕ) (count : ℕ) : Type 0 where
-  pub whole : IsWhole bytes
+  pub whole : checked bytes ≡ Ok (length bytes)
   pub counted_is : entry_count bytes ≡ Ok count
   pub are_bytes : AreBytes bytes

@@ -27,12 +27,10 @@ pub record IsLaidOut (blocks : List (List ℕ)) (left : ℕ) (region : List ℕ)
   pub region_is : region ≡ joined blocks ++ zeros left
 
 -- what stands at a place: nothing, or a block and the place behind it, or the reason why it is no block
-abbrev pub read_at : ℕ → Result ℕ BlockError → Result (Option ℕ) BlockError
-read_at at (Ok size) = Ok (Some (at + size))
-read_at at (Err error) = Err error
-
 abbrev pub next_from : List ℕ → ℕ → Result (Option ℕ) BlockError
-next_from region at = if ends (drop at region) then Ok None else read_at at (checked (drop at region))
+next_from region at =
+    if ends (drop at region) then Ok None
+    else elim (checked (drop at region)) [ Ok size ↦ Ok (Some (at + size)) | Err error ↦ Err error ]
 
 -- the next of some blocks is found at a place with all its bytes, or none where there is none
 abbrev pub FindsNext : List ℕ → ℕ → List (List ℕ) → Type 0

@@ -23,9 +23,6 @@ severity_of writer = writer.severity
 abbrev pub name_of : BlockWriter → GName
 name_of writer = writer.out.ghost_name
 
-abbrev pub stamp_size : ℕ → ℕ
-stamp_size revision = if is_stamped revision then 8 else 0
-
 -- how long an entry is with so many bytes of data
 abbrev pub entry_length : EntryHead → ℕ → ℕ
 entry_length head len = (if is_stamped head.revision then 72 else 64) + len
@@ -55,10 +52,6 @@ pub record Writing (before now : List ℕ) (given : List EntryValue) (end : ℕ)
 -- the writer has written these entries
 abbrev pub IsWriting : List ℕ → List EntryValue → BlockWriter → Type 0
 IsWriting before given writer = Writing before writer.out.now given writer.end
-
--- the block of these entries and this raw data, which the writer leaves
-abbrev pub written_block : BlockWriter → List EntryValue → List ℕ → ℕ → BlockValue
-written_block writer given raw size = record { status = writer.status; severity = writer.severity; entries = given; raw = raw; size = size }
 
 -- raw data stands right behind the entries; without raw data the offset is 0
 abbrev pub offset_for : ℕ → ℕ → ℕ

@@ -1,9 +1,10 @@
 // A status block in bytes.
-ghost use Rattle.std.specs.Prelude.{◌≡◌, ℕ, ◌+◌, ◌-◌, ◌*◌, ◌^◌, ◌<◌, ◌≤◌, ◌++◌, List, [], length, take, Ok, Err, IfOk, IfSome, IsOkAnd, MatchResult, MatchOption};
+ghost use Rattle.std.specs.Prelude.{◌≡◌, ℕ, ◌+◌, ◌-◌, ◌^◌, ◌<◌, ◌≤◌, ◌++◌, List, [], length, take, Ok, Err, IfOk, IfSome, IsOkAnd, MatchResult, MatchOption};
 ghost use Rattle.base_model.specs.Bytes.{part};
 ghost use Rattle.ghes_block.specs.Grammar.{BlockValue, IsBlock};
-ghost use Rattle.ghes_block.specs.Reading.{checked, whole_entry_size, count_in, length_if_there, entry_count};
+ghost use Rattle.ghes_block.specs.Reading.{checked, whole_entry_size, length_if_there, entry_count, entry_walk};
 ghost use Rattle.ghes_block.specs.Entries.{value_of, place_of, HasHead, IsPlace, EntryAt, RestAt};
+ghost use Rattle.apei_bytes.specs.Walk.{item_count};
 
 use crate::entry::{DataEntry, HEAD, size_of_entry};
 use crate::error::BlockError;
@@ -56,7 +57,7 @@ fn whole_entry_size(rest: &[u8], index: u32, at: usize) -> Result<usize, BlockEr
 /// How many entries there are in a block's data.
 fn count_entries(content: &[u8]) -> Result<u32, BlockError>
     requires { length content.now < 2 ^ 32 }
-    ensures { result ≡ count_in content.now }
+    ensures { result ≡ item_count entry_walk (length content.now) 0 20 content.now }
 {
     let mut at = 0;
     let mut index: u32 = 0;
@@ -70,7 +71,8 @@ fn count_entries(content: &[u8]) -> Result<u32, BlockError>
 /// The length, where so many bytes are there, and the number of entries.
 fn sized_block(bytes: &[u8], size: u64, data_length: u32) -> Result<(usize, u32), BlockError>
     requires { 20 + data_length ≤ size }
-    ensures { let count = count_in (part bytes.now 20 data_length)
+    ensures { let content = part bytes.now 20 data_length
+        in let count = item_count entry_walk (length content) 0 20 content
         in MatchResult result (λ x. (length_if_there (length bytes.now) size count ≡ Ok x.0) × (count ≡ Ok x.1))
         (λ e. length_if_there (length bytes.now) size count ≡ Err e) }
 {

@@ -1,8 +1,8 @@
 // The table.
-ghost use Rattle.std.specs.Prelude.{◌≡◌, ℕ, ◌≤◌, length, take, Some, None, IfOk, IsOkAnd, MatchResult};
+ghost use Rattle.std.specs.Prelude.{◌≡◌, ℕ, ◌≤◌, length, take, Some, None, IfOk, IsOkAnd, MatchResult, codes};
 ghost use Rattle.apei_tables.specs.Tables.{refusal};
 ghost use Rattle.ghes_block.specs.declared.table.Bert.{Bert as AnyBert};
-ghost use Rattle.ghes_block.specs.Table.{IsBert, signature};
+ghost use Rattle.ghes_block.specs.Table.{IsBert};
 
 use apei_bytes::{get_u32, get_u64};
 use apei_tables::{Header, TableError};
@@ -23,8 +23,8 @@ impl Bert {
         ensures only { (bert : AnyBert) (n : ℕ) → n ≤ length bytes.now → IsBert bert (take n bytes.now)
             → IsOkAnd result (λ x. (x.0 ≡ bert) × (x.1 ≡ n)) }
         // The error is the first reason that applies.
-        ensures refused { MatchResult result (λ _. refusal signature 48 bytes.now ≡ None)
-            (λ error. refusal signature 48 bytes.now ≡ Some error) }
+        ensures refused { MatchResult result (λ _. refusal (codes "BERT") 48 bytes.now ≡ None)
+            (λ error. refusal (codes "BERT") 48 bytes.now ≡ Some error) }
     {
         match Header::decode(bytes, *b"BERT", 48) {
             Ok((_, table)) => {

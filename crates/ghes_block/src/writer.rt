@@ -3,8 +3,8 @@ ghost use Rattle.std.specs.Prelude.{◌≡◌, ℕ, ◌+◌, ◌^◌, ◌<◌, �
 ghost use Rattle.base_model.specs.Bytes.{spelled, joined};
 ghost use Rattle.apei_bytes.specs.Room.{NeedsRoom};
 ghost use Rattle.apei_bytes.specs.Writing.{Wrote};
-ghost use Rattle.ghes_block.specs.Grammar.{EntryValue, is_stamped, entry_front, entry_bytes, block_head, IsEntryHead};
-ghost use Rattle.ghes_block.specs.Writer.{room_of, used_by, status_of, severity_of, name_of, entry_length, stamp_size, IsBlockWriter, IsUnchanged, IsWriting, IsWritten, written_block, offset_for};
+ghost use Rattle.ghes_block.specs.Grammar.{EntryValue, is_stamped, entry_front, entry_bytes, IsEntryHead};
+ghost use Rattle.ghes_block.specs.Writer.{room_of, used_by, status_of, severity_of, name_of, entry_length, IsBlockWriter, IsUnchanged, IsWriting, IsWritten, offset_for};
 
 use crate::block::HEADER;
 use crate::entry::{EntryHead, HEAD, STAMPED_HEAD, has_stamp};
@@ -33,8 +33,8 @@ fn put_front(out: &mut [u8], at: usize, head: &EntryHead, count: u32)
 
 /// Puts a timestamp, where the entry has one.
 fn put_stamp(out: &mut [u8], at: usize, revision: u16, stamp: u64) -> usize
-    requires { at + stamp_size revision ≤ length out.old }
-    ensures end { result ≡ at + stamp_size revision }
+    requires { at + (if is_stamped revision then 8 else 0) ≤ length out.old }
+    ensures end { result ≡ at + (if is_stamped revision then 8 else 0) }
     ensures wrote { Wrote out.old out.new at result (if is_stamped revision then spelled 8 stamp else []) }
     ensures range { stamp < 2 ^ 64 }
 {
@@ -55,7 +55,8 @@ fn put_head(
     severity: u32,
 )
     requires { 20 ≤ length out.old }
-    ensures { Wrote out.old out.new 0 20 (joined (block_head status raw_offset raw_length data_length severity)) }
+    ensures { Wrote out.old out.new 0 20 (joined
+        (spelled 4 status ∷ spelled 4 raw_offset ∷ spelled 4 raw_length ∷ spelled 4 data_length ∷ spelled 4 severity ∷ [])) }
 {
     let raw_offset_at = write_u32(out, 0, status);
     let raw_length_at = write_u32(out, raw_offset_at, raw_offset);
@@ -171,7 +172,7 @@ impl<'a> BlockWriter<'a> {
         // The first bytes are exactly the block of the entries that were given and this raw data, with the raw offset 0 where
         // there is no raw data.
         ensures written { IfOk result (λ size. (before : List ℕ) (given : List EntryValue)
-            → IsWriting before given self.entry → IsWritten (written_block self.entry given raw.now size)
+            → IsWriting before given self.entry → IsWritten (record { status = self.entry.status; severity = self.entry.severity; entries = given; raw = raw.now; size = size })
             (used_by self.entry) before self.exit.0.now) }
         ensures used { IfOk result (λ size. size ≡ used_by self.entry + length raw.now) }
         // It is refused exactly where there is no room for the raw data.

@@ -31,11 +31,11 @@ last_fits len blocks block all =
 -- a source stands for a state of the machine, over its own window
 pub is_state : (p : Source) (ram : RamState) (m : Machine) → SourceStands p ram m → IsState (length m.window) m
 is_state (Acknowledged h) ram m st = subst (λ (n : ℕ). IsState n m) (sym st.state.window) st.state
-is_state (Plain h) ram m st = subst (λ (n : ℕ). IsState n m) (sym st.agrees.state.window) st.agrees.state
+is_state (Plain h) ram m st = subst (λ (n : ℕ). IsState n m) (sym st.state.window) st.state
 
 pub last_is : (p : Source) (ram : RamState) (m : Machine) → SourceStands p ram m → last_of p ≡ last_taken m
 last_is (Acknowledged h) ram m st = st.last
-last_is (Plain h) ram m st = st.agrees.last_is
+last_is (Plain h) ram m st = st.last
 
 pub last_at : (kind : Kind) (s : SourcesState) (i : ℕ) (m : Machine) → StandsAt kind s i m → last_in s i ≡ last_taken m
 last_at kind s i m at = ap (λ (o : Option Source). elim o [ None ↦ [] | Some handover ↦ last_of handover ]) at.is ∙ last_is at.handover s.ram m at.stands

@@ -4,7 +4,8 @@ use Rattle.ghes_ack.specs.declared.events.Side.{Side}
 use Rattle.ghes_ack.specs.declared.events.Side.TheVariants.{Reader}
 use Rattle.ghes_ack.specs.declared.events.Event.{Event}
 use Rattle.ghes_ack.specs.declared.events.Event.TheVariants.{Took, Ack}
-use Rattle.ghes_ack.specs.Machine.{Machine, Situation, Filling, Published, Reading, Cleared, Acknowledged, Turned, turned, reader_turn, IsState}
+use Rattle.ghes_ack.proofs.Terms.{Turned}
+use Rattle.ghes_ack.specs.Machine.{Machine, Situation, Filling, Published, Reading, Cleared, Acknowledged, turned, reader_turn, IsState}
 use Rattle.ghes_ack.specs.Schedules.{Step, Submit, Turn, Watched, watched, after, run, AreFitting, submissions}
 use Rattle.ghes_ack.proofs.StepLemmas.{turn_keeps}
 use Rattle.ghes_ack.proofs.ScheduleLemmas.{watched_machine}

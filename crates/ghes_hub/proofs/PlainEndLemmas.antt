@@ -7,7 +7,8 @@ use Rattle.ghes_ack.specs.declared.events.Side.TheVariants.{Firmware, Reader}
 use Rattle.ghes_ack.specs.declared.events.Event.{Event}
 use Rattle.ghes_ack.specs.declared.events.Event.TheVariants.{Free, Wait, Nothing, Found}
 use Rattle.ghes_ack.specs.Machine.{Machine, Situation, Filling, Published, Reading, Cleared, Acknowledged}
-use Rattle.ghes_ack.specs.Sides.{looking_at, waiting_at, state_of, handover_of, view_of, in_work, AreApart, IsCopiedSoFar}
+use Rattle.ghes_ack.proofs.Terms.{looking_at}
+use Rattle.ghes_ack.specs.Sides.{waiting_at, state_of, handover_of, view_of, in_work, AreApart, IsCopiedSoFar}
 use Rattle.ghes_ack.specs.declared.ends.Ends.{Ends}
 use Rattle.ghes_ack.specs.declared.ends.FirmwareEnd.{FirmwareEnd}
 use Rattle.ghes_ack.specs.declared.ends.FirmwareEnd.TheVariants.{Writes, Waits}

@@ -25,7 +25,7 @@ use Rattle.ghes_ack.specs.Handovers.{fresh, over}
 use Rattle.ghes_hub.specs.PlainSides.{Turns, AreConsistent}
 use Rattle.ghes_ack.proofs.AddressLemmas.{length-window, block_some, block_placed, status_placed, window-with_window, address-with_window, window-with_address, address-with_address}
 use Rattle.ghes_hub.proofs.PlainMemory.{windows_window, HasPlain-with_address, length-plain_status}
-use Rattle.ghes_hub.proofs.PlainTurns.{kept_now, stands_by}
+use Rattle.ghes_hub.proofs.PlainTurns.{kept_now, agrees, stands_by}
 
 pub started_is : (at : PlainMap) (ram a new : RamState) → HasAddressed at.status at.window ram → a ≡ with_plain_address at ram → new ≡ with_plain_window at a (put_at (block_bytes at.window a) 0 (spelled 4 0)) → new ≡ plain_started at ram
 started_is at ram a new w is_a is =
@@ -47,7 +47,7 @@ begun_stands at b ram new same e w is = subst (λ (h : PlainState). PlainStands 
 pub submits : (h : PlainState) (ram : RamState) (m : Machine) (block : List ℕ) → Fits h.map.window.len block → PlainStands h ram m → PlainStands (record h { waiting = h.waiting ++ block ∷ [] }) ram (submitted m block)
 submits h ram m block good st =
     let more = submits_more (kept_now h ram) m block (option_to_list h.at_work ++ (h.waiting ++ block ∷ [])) (length (h.waiting ++ block ∷ []))
-    (sym (append_assoc (option_to_list h.at_work) h.waiting (block ∷ []))) (length-append h.waiting (block ∷ [])) good st.agrees in
+    (sym (append_assoc (option_to_list h.at_work) h.waiting (block ∷ []))) (length-append h.waiting (block ∷ [])) good (agrees h ram m st) in
     stands_by (record h { waiting = h.waiting ++ block ∷ [] }) ram (block_bytes h.map.window ram) (submitted m block) more refl st.windows st.address st.occurs
 
 -- the blocks that wait

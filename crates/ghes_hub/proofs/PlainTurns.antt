@@ -9,9 +9,10 @@ use Rattle.ghes_ack.specs.declared.events.Side.{Side}
 use Rattle.ghes_ack.specs.declared.events.Side.TheVariants.{Firmware, Reader}
 use Rattle.ghes_ack.specs.declared.events.Event.{Event}
 use Rattle.ghes_ack.specs.declared.events.Event.TheVariants.{Idle, Fill, Publish, Free, Wait, Nothing, Found, Copied, Took, Clear}
-use Rattle.ghes_ack.specs.Machine.{Machine, Situation, Filling, Published, Reading, Cleared, Acknowledged, Fits, with_piece, with_status, Turned, reader_turn, turned}
+use Rattle.ghes_ack.specs.Machine.{Machine, Situation, Filling, Published, Reading, Cleared, Acknowledged, Fits, with_piece, with_status, reader_turn, turned}
 use Rattle.ghes_ack.proofs.MachineTurns as machine
-use Rattle.ghes_ack.specs.Kept.{Kept, Agrees, kept_over}
+use Rattle.ghes_ack.proofs.Terms.{Turned}
+use Rattle.ghes_ack.proofs.Kept.{Kept, Agrees, kept_over}
 use Rattle.ghes_ack.proofs.MachineTurns.{Next}
 use Rattle.ghes_hub.specs.declared.plain.map.PlainMap.{PlainMap}
 use Rattle.ghes_hub.specs.Kinds.{ByStatus, settled, turned_by}
@@ -29,8 +30,32 @@ kept_with h bytes = kept_over h.map.window.len h bytes
 abbrev pub kept_now : PlainState → RamState → Kept
 kept_now h ram = kept_with h (block_bytes h.map.window ram)
 
+pub agrees : (h : PlainState) (ram : RamState) (m : Machine) → PlainStands h ram m → Agrees (kept_now h ram) m
+agrees h ram m st = record {
+  state = st.state;
+  bytes_are = st.window_is;
+  situation_is = st.situation;
+  blocks = st.blocks;
+  wait = st.wait;
+  filled_is = st.filled;
+  copied_is = st.copied;
+  last_is = st.last;
+}
+
 pub stands_by : (h : PlainState) (ram : RamState) (bytes : List ℕ) (m : Machine) → Agrees (kept_with h bytes) m → bytes ≡ block_bytes h.map.window ram → HasAddressed h.map.status h.map.window ram → address_at h.map.status ram ≡ h.map.window.block → h.situation ≢ Cleared → PlainStands h ram m
-stands_by h ram bytes m a seen windows address occurs = record { agrees = subst (λ (x : List ℕ). Agrees (kept_with h x) m) seen a; windows = windows; address = address; occurs = occurs }
+stands_by h ram bytes m a seen windows address occurs = record {
+  state = a.state;
+  windows = windows;
+  address = address;
+  window_is = a.bytes_are ∙ seen;
+  situation = a.situation_is;
+  occurs = occurs;
+  blocks = a.blocks;
+  wait = a.wait;
+  filled = a.filled_is;
+  copied = a.copied_is;
+  last = a.last_is;
+}
 
 -- a machine in one of the four situations is settled
 settled_none : (n : Machine) (s : Situation) → s ≢ Cleared → settled n s ≡ n
@@ -82,10 +107,10 @@ writes side event h after ram new bytes m n is a occurs same wide memory st =
 
 -- the firmware's block fits into the window
 pub next_fits : (h : PlainState) (ram : RamState) (m : Machine) (block : List ℕ) (rest : List (List ℕ)) → kept h ≡ block ∷ rest → PlainStands h ram m → Fits h.map.window.len block
-next_fits h ram m block rest held st = (machine.oldest (kept_now h ram) m block rest held st.agrees).fits
+next_fits h ram m block rest held st = (machine.oldest (kept_now h ram) m block rest held (agrees h ram m st)).fits
 
 pub idles : (h : PlainState) (ram : RamState) (m : Machine) → h.situation ≡ Filling → kept h ≡ [] → PlainStands h ram m → Turns Firmware Idle (over h ram) (over h ram) m
-idles h ram m now none st = stays Firmware Idle h h ram m (machine.idles (kept_now h ram) m now none st.agrees) st.occurs refl st st.windows st.address
+idles h ram m now none st = stays Firmware Idle h h ram m (machine.idles (kept_now h ram) m now none (agrees h ram m st)) st.occurs refl st st.windows st.address
 
 pub fills : (h : PlainState) (ram new : RamState) (m : Machine) (block : List ℕ) (rest : List (List ℕ)) → h.situation ≡ Filling → kept h ≡ block ∷ rest → 64 * h.filled < length block →
     new ≡ with_plain_window h.map ram (with_piece (block_bytes h.map.window ram) block h.filled) → PlainStands h ram m →
@@ -94,7 +119,7 @@ fills h ram new m block rest now held more memory st =
     let fits = (next_fits h ram m block rest held st).fits in
     let n = length-window h.map.status h.map.window ram st.windows in
     let wide : length (with_piece (block_bytes h.map.window ram) block h.filled) ≡ h.map.window.len = length-with_piece (block_bytes h.map.window ram) block h.filled (omega (arith, fits, n)) (omega (arith, more)) ∙ n in
-    let next = machine.fills (kept_now h ram) m block rest now held more st.agrees in
+    let next = machine.fills (kept_now h ram) m block rest now held more (agrees h ram m st) in
     writes Firmware Fill h (record h { waiting = rest; at_work = Some block; filled = h.filled + 1 }) ram new (with_piece (block_bytes h.map.window ram) block h.filled) m next.machine
     (settled_next Firmware Fill (kept_with (record h { waiting = rest; at_work = Some block; filled = h.filled + 1 }) (with_piece (block_bytes h.map.window ram) block h.filled)) m next st.occurs) next.agrees st.occurs refl wide memory st
 
@@ -106,28 +131,28 @@ publishes h ram new m block rest now held none memory st =
     let head = (next_fits h ram m block rest held st).head in
     let four : length (take 4 block) ≡ 4 = length-take 4 block ∙ omega (arith, head) in
     let wide = length-plain_status h.map ram (take 4 block) four st.windows in
-    let next = machine.publishes (kept_now h ram) m block rest now held none st.agrees in
+    let next = machine.publishes (kept_now h ram) m block rest now held none (agrees h ram m st) in
     writes Firmware Publish h (record h { waiting = rest; at_work = Some block; filled = 0; situation = Published }) ram new (with_status (block_bytes h.map.window ram) (take 4 block)) m next.machine
     (settled_next Firmware Publish (kept_with (record h { waiting = rest; at_work = Some block; filled = 0; situation = Published }) (with_status (block_bytes h.map.window ram) (take 4 block))) m next (λ e. cc e)) next.agrees (λ e. cc e) refl wide memory st
 
 pub waits : (h : PlainState) (ram : RamState) (m : Machine) → (h.situation ≡ Published) ⊎ ((h.situation ≡ Reading) ⊎ (h.situation ≡ Cleared)) → PlainStands h ram m → Turns Firmware Wait (over h ram) (over h ram) m
-waits h ram m held st = stays Firmware Wait h h ram m (machine.waits (kept_now h ram) m held st.agrees) st.occurs refl st st.windows st.address
+waits h ram m held st = stays Firmware Wait h h ram m (machine.waits (kept_now h ram) m held (agrees h ram m st)) st.occurs refl st st.windows st.address
 
 pub frees : (h : PlainState) (ram : RamState) (m : Machine) → h.situation ≡ Acknowledged → PlainStands h ram m → Turns Firmware Free (over h ram) (over (record h { situation = Filling }) ram) m
-frees h ram m now st = stays Firmware Free h (record h { situation = Filling }) ram m (machine.frees (kept_now h ram) m now st.agrees) (λ e. cc e) refl st st.windows st.address
+frees h ram m now st = stays Firmware Free h (record h { situation = Filling }) ram m (machine.frees (kept_now h ram) m now (agrees h ram m st)) (λ e. cc e) refl st st.windows st.address
 
 pub no_status : (h : PlainState) (ram : RamState) (m : Machine) → (h.situation ≡ Filling) ⊎ (h.situation ≡ Acknowledged) → PlainStands h ram m → plain_status h.map ram ≡ 0
-no_status h ram m now st = machine.no_status (kept_now h ram) m now st.agrees
+no_status h ram m now st = machine.no_status (kept_now h ram) m now (agrees h ram m st)
 
 -- a published block shows its status, while it is read, too
 pub held_status : (h : PlainState) (ram : RamState) (m : Machine) → (h.situation ≡ Published) ⊎ (h.situation ≡ Reading) → PlainStands h ram m → 0 < plain_status h.map ram
-held_status h ram m now st = machine.some_status (kept_now h ram) m now st.agrees
+held_status h ram m now st = machine.some_status (kept_now h ram) m now (agrees h ram m st)
 
 pub finds_nothing : (h : PlainState) (ram : RamState) (m : Machine) → (h.situation ≡ Filling) ⊎ (h.situation ≡ Acknowledged) → PlainStands h ram m → Turns Reader Nothing (over h ram) (over h ram) m
-finds_nothing h ram m now st = stays Reader Nothing h h ram m (machine.finds_nothing (kept_now h ram) m now st.agrees) st.occurs refl st st.windows st.address
+finds_nothing h ram m now st = stays Reader Nothing h h ram m (machine.finds_nothing (kept_now h ram) m now (agrees h ram m st)) st.occurs refl st st.windows st.address
 
 pub finds : (h : PlainState) (ram : RamState) (m : Machine) → h.situation ≡ Published → PlainStands h ram m → Turns Reader Found (over h ram) (over (record h { situation = Reading; copied = 0 }) ram) m
-finds h ram m now st = stays Reader Found h (record h { situation = Reading; copied = 0 }) ram m (machine.finds (kept_now h ram) m now st.agrees) (λ e. cc e) refl st st.windows st.address
+finds h ram m now st = stays Reader Found h (record h { situation = Reading; copied = 0 }) ram m (machine.finds (kept_now h ram) m now (agrees h ram m st)) (λ e. cc e) refl st st.windows st.address
 
 -- the block that is published and not acknowledged
 held_work : (h : PlainState) (block : List ℕ) → h.at_work ≡ Some block → kept h ≡ block ∷ h.waiting
@@ -139,17 +164,17 @@ work_fits h ram m block is st = next_fits h ram m block h.waiting (held_work h b
 -- a copy of bytes goes over the same bytes
 pub copies_over : (h : PlainState) (ram : RamState) (block : List ℕ) (at n : ℕ) → h.situation ≡ Reading → h.at_work ≡ Some block → 64 * h.copied < length block → at + n ≤ length block → Stands h ram →
     put_at block at (part (block_bytes h.map.window ram) at n) ≡ block
-copies_over h ram block at n now is more inside (m, st) = machine.copies_over (kept_now h ram) m block h.waiting at n now (held_work h block is) more inside st.agrees
+copies_over h ram block at n now is more inside (m, st) = machine.copies_over (kept_now h ram) m block h.waiting at n now (held_work h block is) more inside (agrees h ram m st)
 
 pub copies_more : (h : PlainState) (ram : RamState) (m : Machine) (block : List ℕ) → h.situation ≡ Reading → h.at_work ≡ Some block → 64 * (h.copied + 1) < length block → PlainStands h ram m →
     Turns Reader Copied (over h ram) (over (record h { copied = h.copied + 1 }) ram) m
 copies_more h ram m block now is more st =
-    stays Reader Copied h (record h { copied = h.copied + 1 }) ram m (machine.copies_more (kept_now h ram) m block h.waiting now (held_work h block is) more st.agrees) st.occurs refl st st.windows st.address
+    stays Reader Copied h (record h { copied = h.copied + 1 }) ram m (machine.copies_more (kept_now h ram) m block h.waiting now (held_work h block is) more (agrees h ram m st)) st.occurs refl st st.windows st.address
 
 pub copies_last : (h : PlainState) (ram : RamState) (m : Machine) (block : List ℕ) → h.situation ≡ Reading → h.at_work ≡ Some block → 64 * h.copied < length block → length block ≤ 64 * (h.copied + 1) → PlainStands h ram m →
     Turns Reader Took (over h ram) (over (record h { copied = h.copied + 1; last = block }) ram) m
 copies_last h ram m block now is more all st =
-    stays Reader Took h (record h { copied = h.copied + 1; last = block }) ram m (machine.copies_last (kept_now h ram) m block h.waiting now (held_work h block is) more all st.agrees) st.occurs refl st st.windows st.address
+    stays Reader Took h (record h { copied = h.copied + 1; last = block }) ram m (machine.copies_last (kept_now h ram) m block h.waiting now (held_work h block is) more all (agrees h ram m st)) st.occurs refl st st.windows st.address
 
 -- the clearing is the acknowledgement
 pub clears : (h : PlainState) (ram new : RamState) (m : Machine) (block : List ℕ) → h.situation ≡ Reading → h.at_work ≡ Some block → length block ≤ 64 * h.copied →
@@ -157,7 +182,7 @@ pub clears : (h : PlainState) (ram new : RamState) (m : Machine) (block : List �
 clears h ram new m block now is all memory st =
     let wide = length-plain_status h.map ram (spelled 4 0) (length-spelled 4 0) st.windows in
     let held = held_work h block is in
-    let cleared = machine.clears (kept_now h ram) m block h.waiting now held all st.agrees in
+    let cleared = machine.clears (kept_now h ram) m block h.waiting now held all (agrees h ram m st) in
     let k : Kept = record (kept_now h ram) { situation = Cleared; bytes = with_status (block_bytes h.map.window ram) (spelled 4 0) } in
     let done = machine.acknowledges k cleared.machine block h.waiting refl held cleared.agrees in
     let both : turned_by ByStatus Reader m ≡ (Clear, done.machine) =

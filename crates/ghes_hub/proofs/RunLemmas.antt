@@ -7,7 +7,8 @@ use Rattle.std.proofs.lemmas.Bool.Decides.{nat_tests}
 use Rattle.ghes_ack.specs.declared.events.Side.{Side}
 use Rattle.ghes_ack.specs.declared.events.Side.TheVariants.{Firmware, Reader}
 use Rattle.ghes_ack.specs.declared.events.Event.{Event}
-use Rattle.ghes_ack.specs.Machine.{Machine, Situation, Filling, Published, Reading, Cleared, Acknowledged, Fits, Turned, at_work, pieces, filling, offered, reading, firmware_turn, reader_turn, turned, last_taken, InSituation, IsState}
+use Rattle.ghes_ack.proofs.Terms.{Turned, offered, reading}
+use Rattle.ghes_ack.specs.Machine.{Machine, Situation, Filling, Published, Reading, Cleared, Acknowledged, Fits, at_work, pieces, filling, firmware_turn, reader_turn, turned, last_taken, InSituation, IsState}
 use Rattle.ghes_ack.specs.Schedules.{Step, Submit, Turn, Watched, after, run, from_start, AreFitting, AreInOrder, submissions}
 use Rattle.ghes_ack.proofs.StepLemmas.{submit_keeps, start_is}
 use Rattle.ghes_ack.proofs.ScheduleLemmas.{watched_machine, run_state, run_taken, run_order, run_blocks, state_in_order}

@@ -17,7 +17,8 @@ use Rattle.ghes_ack.proofs.CallLemmas.{StandsFor-others}
 use Rattle.ghes_hub.specs.declared.source.Source.{Source}
 use Rattle.ghes_hub.specs.declared.source.Source.TheVariants.{Acknowledged, Plain}
 use Rattle.ghes_hub.specs.Kinds.{Kind, turned_by}
-use Rattle.ghes_ack.specs.Kept.{Agrees, kept_over}
+use Rattle.ghes_ack.specs.Windows.{block_bytes}
+use Rattle.ghes_hub.proofs.PlainTurns.{agrees, stands_by}
 use Rattle.ghes_hub.proofs.PlainMemory.{plain_windows_kept}
 use Rattle.ghes_hub.specs.Plain.{PlainState, PlainStands}
 use Rattle.ghes_hub.specs.declared.layouts.Layout.TheVariants.{Acknowledged as WithRegister, Plain as WithStatus}
@@ -51,12 +52,9 @@ same_in_map map windows old new clear s = record {
 }
 
 kept_by : (h : PlainState) (windows : List Window) (old new : RamState) (m : Machine) → AreClear windows (layout_windows (WithStatus h.map)) → SameWhere (IsOff windows) old new → PlainStands h old m → PlainStands h new m
-kept_by h windows old new m clear s st = record {
-  agrees = subst (λ (bytes : List ℕ). Agrees (kept_over h.map.window.len h bytes) m) (sym (s.bytes (Memory h.map.window.block) h.map.window.len clear.1.0)) st.agrees;
-  windows = plain_windows_kept h.map old new s.windows s.size st.windows;
-  address = ap little (s.bytes (Memory h.map.status) 8 clear.0) ∙ st.address;
-  occurs = st.occurs;
-}
+kept_by h windows old new m clear s st =
+    stands_by h new (block_bytes h.map.window old) m (agrees h old m st) (sym (s.bytes (Memory h.map.window.block) h.map.window.len clear.1.0))
+    (plain_windows_kept h.map old new s.windows s.size st.windows) (ap little (s.bytes (Memory h.map.status) 8 clear.0) ∙ st.address) st.occurs
 
 -- what is written off the windows of a source leaves it
 pub source_kept : (q : Source) (windows : List Window) (old new : RamState) (m : Machine) → AreClear windows (windows_of q) → SameWhere (IsOff windows) old new → SourceStands q old m → SourceStands q new m

@@ -6,7 +6,7 @@ use Rattle.ghes_ack.specs.declared.events.Side.{Side}
 use Rattle.ghes_ack.specs.declared.events.Event.{Event}
 use Rattle.ghes_ack.specs.declared.submission.SubmitError.{SubmitError}
 use Rattle.ghes_ack.specs.Machine.{Machine}
-use Rattle.ghes_ack.specs.Handovers.{StandsFor, refusal}
+use Rattle.ghes_ack.specs.Handovers.{StandsFor}
 use Rattle.ghes_ack.specs.Submissions.{refusal_of as refusal_within}
 use Rattle.ghes_hub.specs.declared.layouts.Layout.{Layout}
 use Rattle.ghes_hub.specs.declared.layouts.Layout.TheVariants.{Acknowledged as WithRegister, Plain as WithStatus}
@@ -42,7 +42,7 @@ last_of (Plain h) = h.last
 
 -- the first reason why a block is refused
 abbrev pub refusal_of : Source → List ℕ → Option SubmitError
-refusal_of (Acknowledged h) block = refusal h block
+refusal_of (Acknowledged h) block = refusal_within h.map.len block (length h.waiting)
 refusal_of (Plain h) block = refusal_within h.map.window.len block (length h.waiting)
 
 -- the same source in another state

@@ -1,10 +1,9 @@
 -- A handover without a read acknowledgement: its two windows in memory, what it keeps, and the states of the machine that it stands for.
-use Rattle.std.specs.Prelude.{◌≡◌, ◌≢◌, ℕ, List}
+use Rattle.std.specs.Prelude.{◌≡◌, ◌≢◌, ℕ, List, length, drop}
 use Rattle.base_model.specs.Bytes.{spelled}
 use Rattle.apei_space.specs.RamState.{RamState}
-use Rattle.ghes_ack.specs.Machine.{Machine, Cleared, with_status}
-use Rattle.ghes_ack.specs.Handovers.{HandoverOver}
-use Rattle.ghes_ack.specs.Kept.{Agrees, kept_over}
+use Rattle.ghes_ack.specs.Machine.{Machine, Cleared, IsState, waiting_in, last_taken, with_status}
+use Rattle.ghes_ack.specs.Handovers.{HandoverOver, kept}
 use Rattle.ghes_ack.specs.declared.window.BlockWindow.{BlockWindow}
 use Rattle.ghes_ack.specs.Windows.{HasAddressed, block_bytes, block_status, with_block, address_at, with_address_at}
 use Rattle.ghes_hub.specs.declared.plain.map.PlainMap.{PlainMap}
@@ -29,10 +28,18 @@ plain_started map ram = with_plain_window map (with_plain_address map ram) (with
 abbrev pub PlainState : Type 0
 PlainState = HandoverOver PlainMap
 
--- A state of the machine agrees with what the handover keeps and with the memory. The memory has the map's two windows, they are apart, and the
--- block's has room for a block's head. A block whose status word is cleared is acknowledged
+-- A state of the machine agrees with what the handover keeps (the blocks from number acknowledged on, how many of them wait, the block taken
+-- last, the pieces and the situation) and with the memory. The memory has the map's two windows, they are apart, and the block's has room for a
+-- block's head. A block whose status word is cleared is acknowledged
 pub record PlainStands (h : PlainState) (ram : RamState) (m : Machine) : Type 0 where
-  pub agrees : Agrees (kept_over h.map.window.len h (block_bytes h.map.window ram)) m
+  pub state : IsState h.map.window.len m
   pub windows : HasAddressed h.map.status h.map.window ram
   pub address : address_at h.map.status ram ≡ h.map.window.block
+  pub window_is : m.window ≡ block_bytes h.map.window ram
+  pub situation : m.situation ≡ h.situation
   pub occurs : h.situation ≢ Cleared
+  pub blocks : kept h ≡ drop m.acknowledged m.blocks
+  pub wait : length h.waiting ≡ waiting_in m
+  pub filled : h.filled ≡ m.filled
+  pub copied : h.copied ≡ m.copied
+  pub last : h.last ≡ last_taken m

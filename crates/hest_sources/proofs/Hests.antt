@@ -12,8 +12,10 @@ use Rattle.apei_tables.proofs.Finding.{size-front, none_refused}
 use Rattle.hest_sources.specs.declared.sources.HestSource.{HestSource}
 use Rattle.hest_sources.specs.declared.tables.HestError.{HestError}
 use Rattle.hest_sources.specs.declared.tables.HestError.TheVariants.{Table, UnknownType, Cut, Count, Memory}
-use Rattle.hest_sources.specs.Walk.{sources_in, source_count}
-use Rattle.hest_sources.specs.Tables.{signature, IsHest, CountsTable, IsRefusal, refusal}
+use Rattle.hest_sources.specs.Walk.{source_count}
+use Rattle.hest_sources.proofs.Terms.{sources_in}
+use Rattle.hest_sources.specs.Tables.{IsHest, CountsTable, IsRefusal, refusal}
+use Rattle.hest_sources.proofs.Terms.{signature}
 use Rattle.hest_sources.proofs.Walks.{AreSources, counts, counts_again}
 
 split : (bytes : List ℕ) (header : Header) (table : List ℕ) → FindsTable signature 40 bytes header table → bytes ≡ table ++ drop (length table) bytes

@@ -12,7 +12,8 @@ use Rattle.hest_sources.specs.declared.sources.HestSource.{HestSource}
 use Rattle.hest_sources.specs.declared.sources.HestSource.TheVariants.{Ghes as Generic, Other}
 use Rattle.hest_sources.specs.declared.tables.HestError.{HestError}
 use Rattle.hest_sources.specs.declared.tables.HestError.TheVariants.{UnknownType, Cut}
-use Rattle.hest_sources.specs.Layout.{type_of, size_of, length_with_banks, length_by_type, IsSource, ack_at, front_at, source_at, structure_length}
+use Rattle.hest_sources.specs.Layout.{type_of, size_of, length_with_banks, length_by_type, IsSource, front_at, source_at, structure_length}
+use Rattle.hest_sources.proofs.Terms.{ack_at}
 use Rattle.hest_sources.proofs.Structures.{ack_by_type, length-ghes, ghes_reads, ghes_nine, ghes_ten}
 
 -- a length is 20 at least

@@ -1,3 +1,4 @@
+pub mod Terms
 pub mod Structures
 pub mod Lengths
 pub mod Walks

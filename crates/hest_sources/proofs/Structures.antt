@@ -10,7 +10,9 @@ use Rattle.apei_tables.specs.declared.structure.Gas.{Gas}
 use Rattle.apei_tables.specs.GasLayout.{spelling, IsGas}
 use Rattle.hest_sources.specs.declared.sources.Ghes.{Ghes}
 use Rattle.hest_sources.specs.declared.sources.Ack.{Ack}
-use Rattle.hest_sources.specs.Layout.{type_of, size_of, ghes_fields, ack_bytes, ghes_bytes, IsAck, IsGhes, gas_at, ack_at, front_at}
+use Rattle.hest_sources.specs.Layout.{type_of, size_of, ghes_fields, ghes_bytes, IsGhes, gas_at, front_at}
+use Rattle.hest_sources.proofs.Terms.{ack_at, IsAck}
+use Rattle.hest_sources.proofs.Terms.{ack_bytes}
 
 -- registers
 gas_fields : Gas → List (List ℕ)
@@ -83,7 +85,7 @@ ghes_sized source is = let status = length-gas source.status is.status in rw (st
 
 ack_sized : (ack : Ack) → IsAck ack → map length (ack_fields ack) ≡ ack_sizes
 unfolding spelled
-ack_sized ack is = let register = length-gas ack.register is.register in rw register refl
+ack_sized ack is = let register = length-gas ack.register is.0 in rw register refl
 
 length-fields : (source : Ghes) → IsGhes source → length (joined (ghes_fields source)) ≡ 64
 length-fields source is = length-joined (ghes_fields source) ∙ ap total (ghes_sized source is)
@@ -108,9 +110,9 @@ ack_reads (Some ack) front more bytes is size e =
     ∙ part-first (joined fields) more 28 (length-joined fields ∙ ap total (ack_sized ack is)) in
     let cut : parts ack_sizes 0 (part bytes 64 28) ≡ fields = parts_of fields ack_sizes [] (part bytes 64 28) (ack_sized ack is) (inner ∙ sym (append-nil (joined fields))) in
     let field = λ (k : ℕ). ap (λ (xss : List (List ℕ)). get_or xss k []) cut in
-    let register : gas_at (part bytes 64 12) ≡ ack.register = ap gas_at (sym (part-part bytes 64 28 0 12 (omega arith)) ∙ field 0) ∙ gas_reads ack.register is.register in
-    let preserve : number_at bytes 76 8 ≡ ack.preserve = number_of bytes 76 8 ack.preserve (sym (part-part bytes 64 28 12 8 (omega arith)) ∙ field 1) is.preserve in
-    let write : number_at bytes 84 8 ≡ ack.write = number_of bytes 84 8 ack.write (sym (part-part bytes 64 28 20 8 (omega arith)) ∙ field 2) is.write in
+    let register : gas_at (part bytes 64 12) ≡ ack.register = ap gas_at (sym (part-part bytes 64 28 0 12 (omega arith)) ∙ field 0) ∙ gas_reads ack.register is.0 in
+    let preserve : number_at bytes 76 8 ≡ ack.preserve = number_of bytes 76 8 ack.preserve (sym (part-part bytes 64 28 12 8 (omega arith)) ∙ field 1) is.1 in
+    let write : number_at bytes 84 8 ≡ ack.write = number_of bytes 84 8 ack.write (sym (part-part bytes 64 28 20 8 (omega arith)) ∙ field 2) is.2 in
     rw (register, preserve, write) refl
 
 small_type : (ack : Option Ack) → type_of ack < 2 ^ 16
@@ -145,11 +147,8 @@ ghes_reads source bytes more is e =
 
 -- what is read of a generic source is spelled so
 is_ack : (bytes : List ℕ) → AreBytes bytes → 92 ≤ length bytes → IsAck (ack_at bytes)
-is_ack bytes h k = record {
-  register = is_gas (part bytes 64 12) (AreBytes-part bytes 64 12 h) (length-part bytes 64 12 (omega arith));
-  preserve = number_at-lt bytes 76 8 h (omega arith);
-  write = number_at-lt bytes 84 8 h (omega arith);
-}
+is_ack bytes h k =
+    (is_gas (part bytes 64 12) (AreBytes-part bytes 64 12 h) (length-part bytes 64 12 (omega arith)), number_at-lt bytes 76 8 h (omega arith), number_at-lt bytes 84 8 h (omega arith))
 
 is_front : (bytes : List ℕ) (ack : Option Ack) → AreBytes bytes → 64 ≤ length bytes → IfSome ack IsAck → IsGhes (front_at bytes ack)
 is_front bytes ack h k fits = record {

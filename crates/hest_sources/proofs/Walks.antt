@@ -8,7 +8,8 @@ use Rattle.apei_bytes.specs.Walk.{AreItems, item_count}
 use Rattle.apei_bytes.proofs.Walks.{GetsOn, IsFaithful, counts as items_counted, counts_again as items_again}
 use Rattle.hest_sources.specs.declared.sources.HestSource.{HestSource}
 use Rattle.hest_sources.specs.Layout.{IsSource}
-use Rattle.hest_sources.specs.Walk.{structure_walk, sources_in, source_count}
+use Rattle.hest_sources.specs.Walk.{structure_walk, source_count}
+use Rattle.hest_sources.proofs.Terms.{sources_in}
 use Rattle.hest_sources.proofs.Lengths.{measured, length_low, source_is, source_again}
 
 pub gets_on : GetsOn structure_walk

@@ -36,20 +36,15 @@ ghes_fields source =
     ∷ spelled 4 source.block_len
     ∷ []
 
--- and the 28 bytes of its acknowledgement
-abbrev pub ack_bytes : Option Ack → List ℕ
-ack_bytes None = []
-ack_bytes (Some ack) = joined (spelling ack.register ∷ spelled 8 ack.preserve ∷ spelled 8 ack.write ∷ [])
-
+-- a generic source, with the 28 bytes of its acknowledgement where it has one
 unfoldable pub ghes_bytes : Ghes → List ℕ
-ghes_bytes source = joined (ghes_fields source) ++ ack_bytes source.ack
+ghes_bytes source =
+    joined (ghes_fields source) ++ elim source.ack [
+      | None ↦ []
+      | Some ack ↦ joined (spelling ack.register ∷ spelled 8 ack.preserve ∷ spelled 8 ack.write ∷ [])
+    ]
 
 -- each number fits its field, and the notification has its length
-pub record IsAck (ack : Ack) : Type 0 where
-  pub register : IsGas ack.register
-  pub preserve : ack.preserve < 2 ^ 64
-  pub write : ack.write < 2 ^ 64
-
 pub record IsGhes (source : Ghes) : Type 0 where
   pub id : source.id < 2 ^ 16
   pub related : source.related < 2 ^ 16
@@ -61,7 +56,7 @@ pub record IsGhes (source : Ghes) : Type 0 where
   pub status : IsGas source.status
   pub notify : length source.notify ≡ 28
   pub block_len : source.block_len < 2 ^ 32
-  pub ack : IfSome source.ack IsAck
+  pub ack : IfSome source.ack (λ ack. IsGas ack.register × (ack.preserve < 2 ^ 64) × (ack.write < 2 ^ 64))
 
 -- the length of a structure with machine check banks, whose number stands at a place
 abbrev pub length_with_banks : ℕ → List ℕ → ℕ → ℕ → Result ℕ HestError
@@ -92,9 +87,6 @@ IsSource at (Other kind place len) bytes =
 abbrev pub gas_at : List ℕ → Gas
 gas_at bytes = record { space = number_at bytes 0 1; width = number_at bytes 1 1; offset = number_at bytes 2 1; access = number_at bytes 3 1; address = number_at bytes 4 8 }
 
-abbrev pub ack_at : List ℕ → Ack
-ack_at bytes = record { register = gas_at (part bytes 64 12); preserve = number_at bytes 76 8; write = number_at bytes 84 8 }
-
 abbrev pub front_at : List ℕ → Option Ack → Ghes
 front_at bytes ack = record {
   id = number_at bytes 2 2;
@@ -113,7 +105,11 @@ front_at bytes ack = record {
 unfoldable pub source_at : ℕ → List ℕ → ℕ → HestSource
 source_at at bytes len =
     let kind = number_at bytes 0 2 in
-    if (kind == 9) || (kind == 10) then Generic (front_at bytes (if kind == 10 then Some (ack_at bytes) else None))
+    if (kind == 9) || (kind == 10) then Generic (front_at bytes (if kind == 10 then Some (record {
+      register = gas_at (part bytes 64 12);
+      preserve = number_at bytes 76 8;
+      write = number_at bytes 84 8;
+    }) else None))
     else Other kind at len
 
 -- the length of the structure at a place, or why there is none

@@ -11,12 +11,9 @@ use Rattle.hest_sources.specs.declared.tables.HestError.TheVariants.{Table, Unkn
 use Rattle.hest_sources.specs.Layout.{IsSource}
 use Rattle.hest_sources.specs.Walk.{source_count}
 
-abbrev pub signature : List ℕ
-signature = codes "HEST"
-
 -- a sealed table of this signature that has exactly the counted sources behind its first 40 bytes
 pub record IsHest (sources : List HestSource) (table : List ℕ) : Type 0 where
-  pub is_table : (header : Header) × IsHeader header × IsTable header table × (header.signature ≡ signature)
+  pub is_table : (header : Header) × IsHeader header × IsTable header table × (header.signature ≡ codes "HEST")
   pub fixed : 40 ≤ length table
   pub count : number_at table 36 4 ≡ length sources
   pub sources_are : AreItems IsSource (λ rest. rest ≡ []) 40 sources (drop 40 table)
@@ -26,7 +23,7 @@ abbrev pub refusal : List ℕ → Option HestError
 refusal bytes =
     let table = take (number_at bytes 4 4) bytes in
     let declared = number_at table 36 4 in
-    elim (table_refusal signature 40 bytes) [
+    elim (table_refusal (codes "HEST") 40 bytes) [
       | Some error ↦ Some (Table error)
       | None ↦ elim (source_count table) [
         | Ok found ↦ if declared == found then None else Some (Count declared found)
@@ -53,6 +50,6 @@ IsMalformed Memory = ⊥
 -- the bytes begin with this table, which has as many sources as it says
 pub record CountsTable (bytes table : List ℕ) (count : ℕ) : Type 0 where
   pub header : Header
-  pub finds : FindsTable signature 40 bytes header table
+  pub finds : FindsTable (codes "HEST") 40 bytes header table
   pub found : source_count table ≡ Ok count
   pub declared : number_at table 36 4 ≡ count

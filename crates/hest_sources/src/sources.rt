@@ -1,10 +1,10 @@
 // One error source structure.
-ghost use Rattle.std.specs.Prelude.{◌≡◌, ◌+◌, ◌≤◌, ◌<◌, length, Some, Ok, IfOk, IfErr};
-ghost use Rattle.base_model.specs.Bytes.{part, joined};
+ghost use Rattle.std.specs.Prelude.{◌≡◌, ◌+◌, ◌≤◌, ◌<◌, length, Some, Ok, IfOk, IfErr, None, ◌∷◌, []};
+ghost use Rattle.base_model.specs.Bytes.{part, joined, spelled, number_at};
 ghost use Rattle.apei_bytes.specs.Writing.{Wrote};
 ghost use Rattle.apei_tables.specs.GasLayout.{spelling};
 ghost use Rattle.hest_sources.specs.Tables.{IsMalformed};
-ghost use Rattle.hest_sources.specs.Layout.{type_of, size_of, ghes_fields, ack_bytes, ghes_bytes, length_with_banks, length_by_type, gas_at, ack_at, front_at, source_at, structure_length};
+ghost use Rattle.hest_sources.specs.Layout.{type_of, size_of, ghes_fields, ghes_bytes, length_with_banks, length_by_type, gas_at, front_at, source_at, structure_length};
 
 use crate::tables::HestError;
 use apei_bytes::{
@@ -64,7 +64,11 @@ impl Ack {
     /// Reads the acknowledgement of a source that stands first.
     fn read(bytes: &[u8]) -> Ack
         requires { 92 ≤ length bytes.now }
-        ensures { result ≡ ack_at bytes.now }
+        ensures { result ≡ record {
+          register = gas_at (part bytes.now 64 12);
+          preserve = number_at bytes.now 76 8;
+          write = number_at bytes.now 84 8;
+        } }
     {
         Ack {
             register: gas_from(bytes, 64),
@@ -139,7 +143,8 @@ impl Ghes {
 impl Ack {
     fn put(&self, out: &mut [u8]) -> usize
         requires { 92 ≤ length out.old }
-        ensures wrote { Wrote out.old out.new 64 92 (ack_bytes (Some self.now)) }
+        ensures wrote { Wrote out.old out.new 64 92 (joined
+            (spelling self.now.register ∷ spelled 8 self.now.preserve ∷ spelled 8 self.now.write ∷ [])) }
         ensures end { result ≡ 92 }
     {
         let preserve = put_gas(out, 64, &self.register);

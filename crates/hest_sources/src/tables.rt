@@ -1,9 +1,10 @@
 // The table.
-ghost use Rattle.std.specs.Prelude.{◌≡◌, ℕ, ◌^◌, ◌<◌, ◌≤◌, List, length, take, Ok, Some, None, IfOk, IfErr, MatchResult};
+ghost use Rattle.std.specs.Prelude.{◌≡◌, ℕ, ◌^◌, ◌<◌, ◌≤◌, List, length, take, Ok, Some, None, IfOk, IfErr, MatchResult, drop};
 ghost use Rattle.hest_sources.specs.declared.sources.HestSource.{HestSource as Source};
 ghost use Rattle.hest_sources.specs.declared.tables.HestError.TheVariants.{Memory as OutOfMemory};
-ghost use Rattle.hest_sources.specs.Walk.{sources_in, source_count};
+ghost use Rattle.hest_sources.specs.Walk.{source_count, structure_walk};
 ghost use Rattle.hest_sources.specs.Tables.{IsHest, CountsTable, IsMalformed, IsRefusal, refusal};
+ghost use Rattle.apei_bytes.specs.Walk.{items_in};
 
 use crate::sources::{HestSource, length_of};
 use apei_bytes::get_u32;
@@ -83,7 +84,7 @@ fn read_sources(alloc: Global, table: &[u8], count: usize) -> Result<Vec<HestSou
     requires low { 40 ≤ length table.now }
     requires high { length table.now < 2 ^ 32 }
     requires count { source_count table.now ≡ Ok count }
-    ensures { IfOk result (λ sources. sources.items ≡ sources_in table.now) }
+    ensures { IfOk result (λ sources. sources.items ≡ items_in structure_walk (length table.now) 0 40 (drop 40 table.now)) }
 {
     let mut sources = Vec::with_capacity(alloc, count)?;
     let mut at = FIXED;

@@ -17,7 +17,7 @@ abbrev pub members_in : {L : Type 0} → HubStage L → List L
 members_in (Waiting listeners) = listeners
 members_in (Serving hub) = in_order hub.chains
 
--- what is seen of a hub, if there is one, and of the listeners that wait
+-- the stage that a hub makes, if there is one, and the listeners that wait
 abbrev pub stage_in : {X : Type 0} {H : X → Type 0} → Option (Hub X H) → List (DynBox X Global H) → HubStage (DynBox X Global H)
 stage_in None listeners = Waiting listeners
 stage_in (Some hub) listeners = Serving (seen hub)

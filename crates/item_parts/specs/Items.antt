@@ -1,5 +1,5 @@
 -- What bytes begin with, and its parts.
-use Rattle.std.specs.Prelude.{◌≡◌, ℕ, ◌-◌, ◌^◌, ◌≤◌, List, [], length, take, slice_get, Option, Some, Result, Err, MatchResult}
+use Rattle.std.specs.Prelude.{◌≡◌, ℕ, ◌-◌, ◌^◌, ◌≤◌, List, [], length, take, slice_get, Option, Some, Result, Err, MatchResult, codes}
 use Rattle.apei_tables.specs.Tables.{refusal as table_refusal}
 use Rattle.erst_entries.specs.Layout.{Erst as ErstValue, FitsErst}
 use Rattle.erst_entries.specs.Tables.{IsErst, refusal as erst_refusal}
@@ -7,7 +7,7 @@ use Rattle.hest_sources.specs.declared.sources.HestSource.{HestSource}
 use Rattle.hest_sources.specs.declared.tables.HestError.TheVariants.{Memory}
 use Rattle.hest_sources.specs.Tables.{IsHest, IsRefusal}
 use Rattle.ghes_block.specs.declared.table.Bert.{Bert as BertValue}
-use Rattle.ghes_block.specs.Table.{IsBert, signature as bert_signature}
+use Rattle.ghes_block.specs.Table.{IsBert}
 use Rattle.cper_frame.specs.Grammar.{RecordValue, IsRecord}
 use Rattle.cper_frame.specs.Reading.{checked as record_checked}
 use Rattle.ghes_block.specs.Grammar.{BlockValue, IsBlock}
@@ -69,7 +69,7 @@ FindsPart Parts bytes index result = (parts : List Part) → Begins Parts parts 
 abbrev pub IsFault : Item → List ℕ → ItemError → Type 0
 IsFault Erst bytes (ErstFault error) = erst_refusal bytes ≡ Some error
 IsFault Hest bytes (HestFault error) = IsRefusal bytes error
-IsFault Bert bytes (BertFault error) = table_refusal bert_signature 48 bytes ≡ Some error
+IsFault Bert bytes (BertFault error) = table_refusal (codes "BERT") 48 bytes ≡ Some error
 IsFault Record bytes (RecordFault error) = record_checked (2 ^ 32 - 1) bytes ≡ Err error
 IsFault Block bytes (BlockFault error) = block_checked bytes ≡ Err error
 IsFault _ bytes _ = ⊥

@@ -5,7 +5,7 @@ use Rattle.base_model.specs.Bytes.{part, spelled}
 use Rattle.apei_tables.specs.Access.{bits}
 use Rattle.apei_space.specs.RamState.{RamState}
 use Rattle.ghes_ack.specs.Machine.{with_status, started}
-use Rattle.ghes_ack.specs.Maps.{IsSet, ack_read, window, with_ack, with_address, with_set, with_window, memory_started}
+use Rattle.ghes_ack.specs.Maps.{IsSet, ack_read, window, with_ack, with_address, with_window, memory_started, ack_mask}
 use Rattle.ghes_ack.specs.Handovers.{fresh, StandsFor}
 use Rattle.ghes_ack.proofs.MemoryLemmas.{HasWindows-with_address, ack-with_address, set_bits}
 use Rattle.ghes_ack.proofs.EffectLemmas.{started_memory, started_set}
@@ -18,6 +18,7 @@ use Rattle.erst_commands.proofs.LimitLemmas.{reach-few}
 use Rattle.erst_port.specs.PortState.{IsPort}
 use Rattle.port_laws.specs.PortSpaces.{SpaceState}
 use Rattle.port_laws.specs.Machines.{booted_memory, machine_of}
+use Rattle.std.specs.Prelude.{bit_or}
 
 -- a blank memory's acknowledge register is 0
 nothing_read : ack_read own_map blank ≡ 0
@@ -25,7 +26,7 @@ unfolding part
 nothing_read = refl
 
 with_start : RamState
-with_start = with_ack own_map (with_address own_map blank) (with_set own_map (ack_read own_map (with_address own_map blank)))
+with_start = with_ack own_map (with_address own_map blank) (bit_or (ack_read own_map (with_address own_map blank)) (ack_mask own_map))
 
 ends_set : IsSet own_map (memory_started own_map blank)
 unfolding with_start

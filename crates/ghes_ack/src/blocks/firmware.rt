@@ -3,10 +3,11 @@ ghost use Rattle.std.specs.Prelude.{◌≡◌, ◌∷◌, [], ◌<◌, length, t
 ghost use Rattle.ghes_ack.specs.declared.events.Event.TheVariants.{Fill as OfFill};
 ghost use Rattle.ghes_ack.specs.declared.ends.FirmwareEnd.TheVariants.{Waits as OfWaits};
 ghost use Rattle.ghes_ack.specs.Machine.{Filling};
-ghost use Rattle.ghes_ack.specs.Queues.{HasRoom};
 ghost use Rattle.ghes_ack.specs.Handovers.{over};
 ghost use Rattle.ghes_ack.specs.Sides.{state_of};
 ghost use Rattle.ghes_ack.specs.OwnTurns.{IsAble, IsCount, FirmwareMakes, FirmwareRuns};
+ghost use Rattle.ghes_ack.specs.Maps.{window_of};
+ghost use Rattle.ghes_ack.specs.WindowQueues.{HasRoom};
 
 use crate::PIECE;
 use crate::blocks::Blocks;
@@ -23,7 +24,7 @@ pub fn firmware_run(
 ) -> (FirmwareEnd, usize)
     requires able { IsAble blocks.old ram.old }
     requires some { 0 < length events.old }
-    ensures room { HasRoom 0 blocks.new }
+    ensures room { HasRoom window_of 0 blocks.new }
     ensures count { IsCount result.1 (length events.old) }
     ensures runs { FirmwareRuns end (over blocks.old ram.old) (take result.1 events.new) result.0
         (over blocks.new ram.new) }
@@ -74,7 +75,7 @@ fn look_for_ack(wait: MustWait, blocks: &Blocks, events: &mut [Event], ram: &Ram
 /// Writes the next piece of the block at work in place; `false` where there is none of 64 bytes.
 pub fn fill_in_place(write: &MayWrite, blocks: &mut Blocks, ram: &mut Ram) -> bool
     requires { IsAble blocks.old ram.old }
-    ensures room { HasRoom 0 blocks.new }
+    ensures room { HasRoom window_of 0 blocks.new }
     ensures makes { MatchBool result
         (FirmwareMakes (state_of Filling blocks.old) ram.old (OfFill ∷ []) (state_of Filling blocks.new) ram.new)
         ((blocks.new ≡ blocks.old) × (ram.new ≡ ram.old)) }

@@ -4,11 +4,11 @@ ghost use Rattle.base_model.specs.Bytes.{part, put_at};
 ghost use Rattle.ghes_ack.specs.declared.events.Event.TheVariants.{Copied as OfCopied, Took as OfTook};
 ghost use Rattle.ghes_ack.specs.declared.ends.ReaderEnd.TheVariants.{Looks as OfLooks, Reads as OfReads};
 ghost use Rattle.ghes_ack.specs.Machine.{Reading};
-ghost use Rattle.ghes_ack.specs.Maps.{HasWindows, window};
-ghost use Rattle.ghes_ack.specs.Queues.{HasRoom};
+ghost use Rattle.ghes_ack.specs.Maps.{HasWindows, window, window_of};
 ghost use Rattle.ghes_ack.specs.Handovers.{over};
 ghost use Rattle.ghes_ack.specs.Sides.{IsFar, state_of};
 ghost use Rattle.ghes_ack.specs.OwnTurns.{IsAble, IsCount, GoesOn, ReaderMakes, ReaderRuns};
+ghost use Rattle.ghes_ack.specs.WindowQueues.{HasRoom};
 
 use crate::PIECE;
 use crate::blocks::Blocks;
@@ -27,7 +27,7 @@ pub fn reader_run(
     requires able { IsAble blocks.old ram.old }
     requires far { IsFar end blocks.old }
     requires some { 0 < length events.old }
-    ensures room { HasRoom 0 blocks.new }
+    ensures room { HasRoom window_of 0 blocks.new }
     ensures far { GoesOn end result.0 blocks.new }
     ensures count { IsCount result.1 (length events.old) }
     ensures runs { ReaderRuns end (over blocks.old ram.old) (take result.1 events.new) result.0
@@ -48,7 +48,7 @@ pub fn reader_run(
 fn look_for_block(look: MustLook, blocks: &mut Blocks, events: &mut [Event], ram: &Ram) -> ReaderEnd
     requires able { IsAble blocks.old ram.now }
     requires some { 0 < length events.old }
-    ensures room { HasRoom 0 blocks.new }
+    ensures room { HasRoom window_of 0 blocks.new }
     ensures runs { ReaderRuns (OfLooks look) (over blocks.old ram.now) (take 1 events.new) result
         (over blocks.new ram.now) }
 {
@@ -75,7 +75,7 @@ fn copy_or_clear(
     requires able { IsAble blocks.old ram.old }
     requires far { IsFar (OfReads read) blocks.old }
     requires some { 0 < length events.old }
-    ensures room { HasRoom 0 blocks.new }
+    ensures room { HasRoom window_of 0 blocks.new }
     ensures far { IsFar result.0 blocks.new }
     ensures count { IsCount result.1 (length events.old) }
     ensures runs { ReaderRuns (OfReads read) (over blocks.old ram.old) (take result.1 events.new) result.0
@@ -104,7 +104,7 @@ fn copy_or_clear(
 pub fn copy_in_place(read: &MayRead, blocks: &mut Blocks, ram: &Ram) -> bool
     requires able { IsAble blocks.old ram.now }
     requires far { IsFar (OfReads read.now) blocks.old }
-    ensures room { HasRoom 0 blocks.new }
+    ensures room { HasRoom window_of 0 blocks.new }
     ensures far { IsFar (OfReads read.now) blocks.new }
     ensures makes { MatchBool result
         (ReaderMakes (state_of Reading blocks.old) ram.now (OfCopied ∷ []) (state_of Reading blocks.new) ram.now)

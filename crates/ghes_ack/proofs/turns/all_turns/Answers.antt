@@ -6,7 +6,8 @@ use Rattle.ghes_ack.specs.declared.events.Side.{Side}
 use Rattle.ghes_ack.specs.declared.events.Event.{Event}
 use Rattle.ghes_ack.specs.Machine.{Machine, turned_times}
 use Rattle.ghes_ack.specs.Handovers.{HandoverState, over}
-use Rattle.ghes_ack.specs.Sides.{Stands, MakesTurns, handover_of}
+use Rattle.ghes_ack.specs.Sides.{MakesTurns, handover_of}
+use Rattle.ghes_ack.specs.Sides.{Stands}
 use Rattle.ghes_ack.proofs.JoinLemmas.{SideDone}
 use Rattle.ghes_ack.proofs.RunLemmas.{no_turns, turns_then}
 use Rattle.ghes_ack.proofs.BothSides.{side_able, side_done}

@@ -1,6 +1,7 @@
 use Rattle.std.proofs.Common.{◌≡◌, ◌+◌, ◌-◌, ◌*◌, ◌≤◌, length, drop}
 use Rattle.apei_bytes.specs.Walk.{item_count}
-use Rattle.ghes_block.specs.Reading.{entry_walk, count_in}
+use Rattle.ghes_block.specs.Reading.{entry_walk}
+use Rattle.ghes_block.proofs.Terms.{count_in}
 use Rattle.ghes_block.proofs.block.count_entries.Given as goal
 
 abbrev pub invariant-loop-at : goal.invariant-loop-at

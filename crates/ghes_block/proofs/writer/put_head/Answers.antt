@@ -2,7 +2,7 @@ use Rattle.std.proofs.Common.{ℕ, subst, arith}
 use Rattle.base_model.specs.Bytes.{joined}
 use Rattle.apei_bytes.specs.Writing.{Wrote}
 use Rattle.apei_bytes.proofs.Puts.{no_field, next_field}
-use Rattle.ghes_block.specs.Grammar.{block_head}
+use Rattle.ghes_block.proofs.Terms.{block_head}
 use Rattle.ghes_block.proofs.writer.put_head.Goals as goal
 
 pub returns : goal.returns

@@ -1,7 +1,8 @@
 use Rattle.std.proofs.Common.{◌≡◌, ◌-◌, ◌≤◌, ◌++◌, length, drop, Ok}
 use Rattle.std.specs.Prelude.{vec_capacity}
 use Rattle.apei_bytes.specs.Walk.{items_in, item_count}
-use Rattle.hest_sources.specs.Walk.{structure_walk, sources_in}
+use Rattle.hest_sources.specs.Walk.{structure_walk}
+use Rattle.hest_sources.proofs.Terms.{sources_in}
 use Rattle.hest_sources.proofs.tables.read_sources.Given as goal
 
 abbrev pub invariant-loop-at : goal.invariant-loop-at

@@ -1,7 +1,8 @@
 use Rattle.std.proofs.Common.{◌≡◌, ◌∙◌, ℕ, ◌+◌, length, drop, Vec, Option, Some, sym, ap, subst, arith}
 use Rattle.std.specs.declared.alloc.Global.{Global}
 use Rattle.std.specs.Vec.{with_items}
-use Rattle.ghes_ack.specs.WindowQueues.{count_of, IsWideIfSome}
+use Rattle.ghes_ack.specs.WindowQueues.{count_of}
+use Rattle.ghes_ack.proofs.Terms.{IsWideIfSome}
 use Rattle.ghes_ack.proofs.RoomLemmas.{room_with}
 use Rattle.ghes_ack.proofs.SideLemmas.{clears_at, begins_at, copies_at, takes_at}
 use Rattle.ghes_ack.proofs.blocks.reader.copy_or_clear.Goals as goal

@@ -1,7 +1,7 @@
 use Rattle.std.proofs.Common.{ℕ, sym, ap, ◌∙◌, arith}
 use Rattle.base_model.specs.Bytes.{part}
 use Rattle.ghes_block.specs.Grammar.{BlockValue}
-use Rattle.ghes_block.specs.Reading.{raw_offset}
+use Rattle.ghes_block.proofs.Terms.{raw_offset}
 use Rattle.ghes_block.proofs.Whole.{whole, no_raw}
 use Rattle.ghes_block.proofs.block.Block.raw.Goals as goal
 

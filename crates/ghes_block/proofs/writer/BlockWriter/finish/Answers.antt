@@ -1,7 +1,7 @@
 use Rattle.std.proofs.Common.{ℕ, ◌+◌, ◌-◌, length, refl, subst}
 use Rattle.base_model.specs.Bytes.{joined}
 use Rattle.apei_bytes.specs.Writing.{Wrote}
-use Rattle.ghes_block.specs.Grammar.{block_head}
+use Rattle.ghes_block.proofs.Terms.{block_head}
 use Rattle.ghes_block.proofs.Writes.{ends}
 use Rattle.ghes_block.proofs.writer.BlockWriter.finish.Goals as goal
 

@@ -1,7 +1,7 @@
 use Rattle.std.proofs.Common.{ℕ, Some, subst, arith}
 use Rattle.apei_bytes.specs.Writing.{Wrote}
 use Rattle.apei_bytes.proofs.Puts.{◌▸◌, no_field}
-use Rattle.hest_sources.specs.Layout.{ack_bytes}
+use Rattle.hest_sources.proofs.Terms.{ack_bytes}
 use Rattle.hest_sources.proofs.sources.Ack.put.Goals as goal
 
 pub returns-clause-wrote : goal.returns-clause-wrote
