@@ -71,7 +71,7 @@ first_of_walk : (layout : Layout) (cursor : ℕ) (command : Command) (answer : A
     → IsWalked cursor (with_found answer (found_by rest)) (λ x. IsSome (get stored x) × Stays x)
 first_of_walk layout cursor (Read id) answer taken stored rest Stays answered other walk more = absurd other
 first_of_walk layout cursor Next (Found (Some id)) taken stored rest Stays answered other walk more =
-    walked_on cursor id (found_by rest) stored Stays (answered.1).above (answered.1).least (more walk)
+    walked_on cursor id (found_by rest) stored Stays (answered.1).0 (answered.1).2 (more walk)
 first_of_walk layout cursor Next (Found None) taken stored rest Stays answered other walk more =
     walked_out cursor (found_by rest) stored Stays (ap found_by walk) answered.1
 first_of_walk layout cursor (Write id bytes) Done taken stored rest Stays answered other walk more = walked_same cursor (found_by rest) stored Stays (more walk)
