@@ -231,9 +231,8 @@ taken_is size slots k image ids places some sized paired only listed =
 -- at the end of the second pass
 pub settled_only : (size slots : ℕ) (old now : FlashState) (found : Found) → length found.places.items ≡ length found.ids.items → IsSettled size slots slots old now found → OnlyFirstUp size slots now.told.image
 unfolding entry_at
-settled_only size slots old now found paired had = record {
-  each = λ k h up. first_chosen (entry_at size slots now.told.image) slots k found.ids.items found.places.items paired had.listed (had.settled k h up);
-}
+settled_only size slots old now found paired had =
+    λ k h up. first_chosen (entry_at size slots now.told.image) slots k found.ids.items found.places.items paired had.listed (had.settled k h up)
 
 pub settled_free : (size slots : ℕ) (old now : FlashState) (found : Found) → 65 ≤ size → length now.told.image ≡ size * slots → length found.places.items ≡ length found.ids.items
     → IsSettled size slots slots old now found
