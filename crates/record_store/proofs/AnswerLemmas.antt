@@ -13,10 +13,11 @@ use Rattle.record_slots.specs.declared.found.Found.{Found}
 use Rattle.record_slots.specs.declared.found.SlotOf.{SlotOf}
 use Rattle.record_slots.specs.Listed.{IsPlaceOf, AreListed, IsListed}
 use Rattle.record_slots.proofs.ListedLemmas.{get-listed, get-unlisted}
-use Rattle.record_store.specs.Index.{IsListOf, IsPlaceFound, IsStoredAt}
+use Rattle.record_store.specs.Index.{IsListOf, IsPlaceFound}
 use Rattle.record_store.specs.Store.{StoreView, stored}
 use Rattle.record_store.proofs.CountLemmas.{len_stored}
 use Rattle.record_store.proofs.StoreLemmas.{KnowsMap, of_old}
+use Rattle.record_store.proofs.Words.{IsStoredAt}
 
 -- what a list has stands at an index of it
 contains_at : (xs : List ℕ) (x : ℕ) → Contains xs x → IsListed xs x

@@ -11,7 +11,8 @@ use Rattle.record_model.specs.RecordMap.{Command, Write, Clear, Read, Count, Nex
 use Rattle.record_model.specs.History.{Answer, Done, Counted, Found, Refused, Hardware, Played, IsAnswered, AreAnswered, cursor_after, left_by}
 use Rattle.record_slots.specs.Listed.{IsListed}
 use Rattle.record_slots.proofs.FreeLemmas.{listed-cons}
-use Rattle.record_store.specs.Walk.{with_found, found_by, IsNoRead, EndsOr, IsWalk, StaysStored}
+use Rattle.record_store.specs.Walk.{with_found, found_by, EndsOr, IsWalk, StaysStored}
+use Rattle.record_store.proofs.Words.{IsNoRead}
 
 -- the identifiers that are found above a cursor: in rising order, and each of some
 record IsWalked (cursor : ℕ) (ids : List ℕ) (Stays : ℕ → Type 0) : Type 0 where

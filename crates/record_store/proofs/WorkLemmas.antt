@@ -39,11 +39,12 @@ use Rattle.record_slots.specs.declared.found.SlotOf.{SlotOf}
 use Rattle.record_slots.specs.Listed.{IsWithin}
 use Rattle.record_slots.proofs.OpenedLemmas.{IsChosen-opened}
 use Rattle.record_slots.proofs.SettledLemmas.{kill_can}
-use Rattle.record_store.specs.Index.{IsListOf, HasOpened, HasLost, HasItsParts, IsEntryOf, IsOlderCopy, IsOnlyCopy, IsPlaceFound}
+use Rattle.record_store.specs.Index.{IsListOf, HasOpened, HasLost, IsEntryOf, IsPlaceFound}
 use Rattle.record_store.specs.Store.{Pending, Idle, Writing, records_of, IsAt, map_after, pending_after, changes_before_gate, changes_in_all}
-use Rattle.record_store.specs.Kept.{KnowsDraft, KnowsOldCopy, KnowsCleared, IsWrite, MayMake, HasMade, kept_of, pending_of, work_after, slots_in, further_in, opened_place}
+use Rattle.record_store.specs.Kept.{KnowsDraft, KnowsOldCopy, KnowsCleared, IsWrite, HasMade, kept_of, pending_of, work_after, slots_in, opened_place}
 use Rattle.record_store.specs.declared.work.Begun.TheVariants.{Nothing, Write, OldCopy, Clear}
 use Rattle.record_model.proofs.Words.{DiffersInFreeSlot}
+use Rattle.record_store.proofs.Words.{HasItsParts, IsOlderCopy, IsOnlyCopy, MayMake, further_in}
 
 pub large_slot : (geometry : Geometry) → 65 ≤ geometry.slot_size
 large_slot geometry = omega (arith, geometry.least_slot)
