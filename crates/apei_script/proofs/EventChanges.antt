@@ -21,11 +21,12 @@ use Rattle.erst_machine.specs.declared.areas.Location.TheVariants.{Inside, Beyon
 use Rattle.erst_machine.specs.declared.areas.Register.{Register}
 use Rattle.erst_machine.specs.declared.areas.Register.TheVariants.{Action, Value, NoRegister}
 use Rattle.erst_machine.specs.Areas.{register_at}
-use Rattle.erst_machine.specs.MachineState.{MachineState, location_of, location_at}
-use Rattle.erst_machine.specs.Allowed.{NumberWrite, write_of, RegisterWritten, AreaWritten, NumberWritten, Allows}
+use Rattle.erst_machine.specs.MachineState.{MachineState, location_of}
+use Rattle.erst_machine.specs.Allowed.{NumberWrite, write_of, RegisterWritten, NumberWritten, Allows}
 use Rattle.erst_machine.specs.Events.{Warms, Powers, Event, Accessed, Warmed, Powered, Submitted, Turned, Laid, Submits, Happens}
 use Rattle.erst_machine.proofs.CrashTrail.{stored_store, copied_store}
 use Rattle.apei_script.specs.Changes.{changes_by_event, changes_along}
+use Rattle.apei_tables.specs.declared.registers.Place.TheVariants.{Memory}
 
 -- what happened took so many changes where no fault was counted, the count of faults never falls, and the flash is divided as it was
 pub record Takes (tells : Type 0) (old : MachineState) (changes : ℕ) (new : MachineState) : Type 0 where
@@ -65,7 +66,7 @@ of_register tells Value old new write h = by_state tells old new _ h.1 refl
 of_register tells NoRegister old new write h = by_state tells old new _ h.1 refl
 
 of_area : (tells : Type 0) (area : Area) (start : ℕ) (old new : MachineState) (write : NumberWrite) →
-    AreaWritten tells area start old write new → Takes tells old (at_location old write.width (write.value % 2 ^ 32) (Inside area start)) new
+    NumberWritten tells (Inside area start) old write new → Takes tells old (at_location old write.width (write.value % 2 ^ 32) (Inside area start)) new
 of_area tells Device start old new write h = of_register tells (register_at start write.width) old new write h
 of_area tells Scratch start old new write h = by_state tells old new _ h.1 refl
 of_area tells LogRange start old new write h = by_state tells old new _ h.1 refl
@@ -83,9 +84,9 @@ of_access : (tells : Type 0) (old : MachineState) (call : Call) (new : MachineSt
 of_access tells old (Read at width answer) new h = by_state tells old new _ h.1 refl
 of_access tells old (Write at width value answer) new h = of_write tells (location_of old at (bits width / 8)) old new (write_of (address_of at) width value answer) h
 of_access tells old (Wait micros) new h = by_state tells old new _ h refl
-of_access tells old (Copy from to n answer) new h = by_state tells old new _ h.1 (copied_store _ _ (location_at old from n) (location_at old to n) old n)
+of_access tells old (Copy from to n answer) new h = by_state tells old new _ h.1 (copied_store _ _ (location_of old (Memory from) n) (location_of old (Memory to) n) old n)
 of_access tells old (ReadBytes at before after answer) new h = by_state tells old new _ h.2 refl
-of_access tells old (WriteBytes at bytes answer) new h = by_state tells old new _ h.1 (stored_store (location_at old at (length bytes)) old at bytes)
+of_access tells old (WriteBytes at bytes answer) new h = by_state tells old new _ h.1 (stored_store (location_of old (Memory at) (length bytes)) old at bytes)
 
 -- a restart looks at the slots of the flash that it finds
 of_warms : (tells : Type 0) (old new : MachineState) (result : Result ℕ BootError) → Warms tells old result new → Takes tells old (copies_in old.device.store) new

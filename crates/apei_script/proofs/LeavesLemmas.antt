@@ -8,7 +8,7 @@ use Rattle.hex.specs.declared.error.FromHexError.{FromHexError}
 use Rattle.apei_space.specs.Calls.{ReadBytes}
 use Rattle.record_model.specs.Records.{Stored}
 use Rattle.record_model.specs.RecordMap.{Command, Write, Clear, after}
-use Rattle.record_store.specs.Store.{StoreView, KeepsMap, IsBeforeOrAfter}
+use Rattle.record_store.specs.Store.{StoreView, KeepsMap, KeepsOrMakes, stored}
 use Rattle.ghes_ack.specs.declared.events.Event.{Event as TurnEvent}
 use Rattle.ghes_ack.specs.declared.submission.SubmitError.{SubmitError}
 use Rattle.erst_device.specs.DeviceState.{DeviceState}
@@ -63,7 +63,7 @@ keeps range old line new kept = Leaves-weaker (told_of old) (told_of new) _ _ ke
 
 -- the records are kept, or those of a command
 makes : (range : ℕ) (old : MachineState) (line : Line) (command : Command) (new : MachineState) → after_line range old line ≡ after old.device.store.layout command (records_of old) →
-    IsBeforeOrAfter old.device.store new.device.store command → LineLeaves range old line new
+    KeepsOrMakes old.device.store new.device.store (after old.device.store.layout command (stored old.device.store)) → LineLeaves range old line new
 makes range old line command new is crash =
     subst (λ (made : Stored). Leaves (told_of old) (told_of new) (λ image. (shown_by old image ≡ records_of old) ⊎ (shown_by old image ≡ made))) (sym is) crash
 
@@ -72,8 +72,8 @@ abbrev LeavesOwn : MachineState → Line → MachineState → Type 0
 LeavesOwn old line new = LineLeaves (reach_in old.device) old line new
 
 changed : (first last : MachineState) (id : ℕ) (command : Command) (requests : List Request) (budget : ℕ) (result : Result (Unit {0}) ClientError) (left : ℕ) →
-    ChangeCommand first last id command requests budget result left → IsBeforeOrAfter first.device.store last.device.store command
-changed first last id command requests budget result left made = elim made as (λ result left made. IsBeforeOrAfter first.device.store last.device.store command) [
+    ChangeCommand first last id command requests budget result left → KeepsOrMakes first.device.store last.device.store (after first.device.store.layout command (stored first.device.store))
+changed first last id command requests budget result left made = elim made as (λ result left made. KeepsOrMakes first.device.store last.device.store (after first.device.store.layout command (stored first.device.store))) [
   | IsTaken pauses left taken now made spent ↦ made.leaves.crash
   | IsRefused refusal error left refused is now made spent ↦ made.leaves.crash
   | IsFailed pauses left usable rose either leaves few spent ↦ leaves.crash

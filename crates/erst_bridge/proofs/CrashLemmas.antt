@@ -7,7 +7,7 @@ use Rattle.base_model.specs.Bytes.{put_at}
 use Rattle.base_model.proofs.CrashLemmas.{Leaves-none, Leaves-exit}
 use Rattle.record_model.specs.Records.{Stored as Records}
 use Rattle.record_model.specs.RecordMap.{Command, Write, after}
-use Rattle.record_store.specs.Store.{IsBeforeOrAfter, records_of as records_in}
+use Rattle.record_store.specs.Store.{records_of as records_in, KeepsOrMakes, stored}
 use Rattle.erst_device.specs.DeviceState.{DeviceState}
 use Rattle.erst_client.specs.declared.errors.ClientError.{ClientError}
 use Rattle.erst_client.specs.declared.requests.Request.{Request}
@@ -37,8 +37,8 @@ same_told old made new same =
     subst (λ (told : Told). Leaves (told_of old) told (λ image. (shown_by old image ≡ records_of old) ⊎ (shown_by old image ≡ made))) (sym same) (Leaves-none (told_of old) _ (inl refl))
 
 command_crash : (first last : MachineState) (id : ℕ) (command : Command) (requests : List Request) (budget : ℕ) (result : Result (Unit {0}) ClientError) (left : ℕ)
-    → ChangeCommand first last id command requests budget result left → IsBeforeOrAfter first.device.store last.device.store command
-command_crash first last id command requests budget result left made = elim made as (λ result left made. IsBeforeOrAfter first.device.store last.device.store command) [
+    → ChangeCommand first last id command requests budget result left → KeepsOrMakes first.device.store last.device.store (after first.device.store.layout command (stored first.device.store))
+command_crash first last id command requests budget result left made = elim made as (λ result left made. KeepsOrMakes first.device.store last.device.store (after first.device.store.layout command (stored first.device.store))) [
   | IsTaken pauses left taken now made spent ↦ made.leaves.crash
   | IsRefused refusal error left refused is now made spent ↦ made.leaves.crash
   | IsFailed pauses left usable rose either leaves few spent ↦ leaves.crash

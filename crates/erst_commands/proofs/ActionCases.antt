@@ -10,8 +10,9 @@ use Rattle.erst_device.specs.declared.status.CommandStatus.TheVariants.{Success}
 use Rattle.erst_device.specs.StoreCalls.{Stepped, ReadOut, FoundNext, Counted}
 use Rattle.erst_device.specs.DeviceState.{DeviceState, IsStill, IsRunning, Reads, Changes, given_up}
 use Rattle.erst_device.specs.Starts.{Starts}
-use Rattle.erst_device.specs.Actions.{told_by, begun_by, waits, IsAllowed, stepped, shown, found, counted, Acts, Begins, Ends, SetsOffset, SetsId, Waits, Executes, NoneRuns, Steps, Shows, Tells, FindsNext, Counts, Ignores}
+use Rattle.erst_device.specs.Actions.{told_by, begun_by, waits, stepped, shown, found, counted, Acts, Begins, Ends, SetsOffset, SetsId, Waits, Executes, NoneRuns, Steps, Shows, Tells, FindsNext, Counts, Ignores}
 use Rattle.erst_commands.proofs.SharedLemmas.{idle_busy}
+use Rattle.erst_device.proofs.Words.{IsAllowed}
 
 -- the device afterwards, with the log range as before
 pub record Becomes (device : DeviceState) (range : List ℕ) (new : DeviceState) (after : List ℕ) : Type 0 where

@@ -23,7 +23,7 @@ use Rattle.erst_device.specs.declared.status.CommandStatus.TheVariants.{Success,
 use Rattle.erst_device.specs.Statuses.{number_of}
 use Rattle.erst_device.specs.StoreCalls.{Counted}
 use Rattle.erst_device.specs.DeviceState.{DeviceState, given_up}
-use Rattle.erst_device.specs.Actions.{IsAllowed, found, counted}
+use Rattle.erst_device.specs.Actions.{found, counted}
 use Rattle.erst_machine.specs.MachineState.{MachineState}
 use Rattle.erst_machine.specs.Allowed.{Allows, ActsOn}
 use Rattle.erst_machine.specs.OwnTables.{own_entries}
@@ -33,6 +33,7 @@ use Rattle.erst_commands.proofs.ActionCases.{finds_next, counts}
 use Rattle.erst_commands.proofs.MachineSteps.{on_device}
 use Rattle.erst_commands.proofs.AskLemmas.{Went, Halted, first_asked, none_asked}
 use Rattle.erst_commands.proofs.SequenceLemmas.{RunTo, ok_reaches, begun_device, status_in, HasTold, HasNotTold, HasNotWaited, HasNotAsked, sequence_ends}
+use Rattle.erst_device.proofs.Words.{IsAllowed}
 
 -- What rose
 

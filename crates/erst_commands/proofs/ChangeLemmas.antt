@@ -7,7 +7,7 @@ use Rattle.base_model.proofs.CrashLemmas.{Leaves-none, Leaves-weaker, Leaves-the
 use Rattle.record_model.specs.Records.{Stored, is_reserved}
 use Rattle.record_model.specs.RecordMap.{Command, Refusal, refusal_of, after, changes_of}
 use Rattle.record_model.proofs.RefusalLemmas.{changes_of-refused}
-use Rattle.record_store.specs.Store.{StoreView, Pending, Idle, stored, records_of as records_in, doubt_after, KeepsMap, KeepsOrMakes, DividesAlike, abandoned}
+use Rattle.record_store.specs.Store.{StoreView, Pending, Idle, stored, records_of as records_in, KeepsMap, KeepsOrMakes, DividesAlike, abandoned}
 use Rattle.record_store.specs.Answers.{copies_of}
 use Rattle.erst_interp.specs.declared.stops.RunStop.{RunStop}
 use Rattle.erst_interp.specs.declared.stops.RunStop.TheVariants.{Budget}
@@ -33,6 +33,7 @@ use Rattle.erst_commands.proofs.MachineSteps.{on_device}
 use Rattle.erst_commands.proofs.SequenceLemmas.{Untouched, Opened, StillWaited, IsAtOnce, IsShort, wait_still, ended_from, status_in, HasTold, HasNotTold, HasNotWaited, HasNotAsked, sequence_ends, opened_ok, opened_short}
 use Rattle.erst_commands.proofs.WayLemmas.{Leads, OnWay, Broken, Midway, of_way, WayWaited, WayEnds, WayBreaks, WayStops, wait_way}
 use Rattle.erst_commands.proofs.SharedLemmas.{equivalent_then}
+use Rattle.record_store.proofs.Words.{doubt_after}
 
 -- what a start leaves, whatever it answers
 pub record Base (first start : MachineState) : Type 0 where

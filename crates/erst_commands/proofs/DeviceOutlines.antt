@@ -134,7 +134,7 @@ pub record Became (action : Option Action) (old : DeviceOutline) (range : List �
 -- One next is found
 
 none_or_some : (cursor : ℕ) (map : Stored) (id : ℕ) → IsNextAbove cursor map None → IsNextAbove cursor map (Some id) → ⊥
-none_or_some cursor map id none least = some_not (get map id) least.here (none id least.above)
+none_or_some cursor map id none least = some_not (get map id) least.1 (none id least.0)
   where
     some_not : (kept : Option (List ℕ × ℕ)) → IsSome kept → kept ≡ None → ⊥
     some_not None here is = let e : false ≡ true = here in absurd (cc)
@@ -145,8 +145,8 @@ next_once cursor map None None none also = refl
 next_once cursor map None (Some id) none least = absurd (none_or_some cursor map id none least)
 next_once cursor map (Some id) None least none = absurd (none_or_some cursor map id none least)
 next_once cursor map (Some x) (Some y) one other =
-    let below : x ≤ y = one.least y other.above other.here in
-    let above : y ≤ x = other.least x one.above one.here in
+    let below : x ≤ y = one.2 y other.0 other.1 in
+    let above : y ≤ x = other.2 x one.0 one.1 in
     let same : x ≡ y = omega arith in
     ap (λ (n : ℕ). Some n) same
 

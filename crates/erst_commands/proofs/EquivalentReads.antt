@@ -17,8 +17,8 @@ use Rattle.erst_machine.specs.declared.areas.Area.TheVariants.{Device, Scratch, 
 use Rattle.erst_machine.specs.declared.areas.Location.{Location}
 use Rattle.erst_machine.specs.declared.areas.Location.TheVariants.{Inside, Beyond, Nowhere}
 use Rattle.erst_machine.specs.Areas.{size_of, IsPlaced}
-use Rattle.erst_machine.specs.MachineState.{MachineState, IsMachine, location_at}
-use Rattle.erst_machine.specs.Allowed.{area_bytes, bytes_read, Allows}
+use Rattle.erst_machine.specs.MachineState.{MachineState, IsMachine, location_of}
+use Rattle.erst_machine.specs.Allowed.{bytes_read, Allows}
 use Rattle.erst_machine.proofs.KeptLemmas.{location_placed}
 use Rattle.erst_machine.proofs.CrashTrail.{reached_is_machine}
 use Rattle.erst_commands.specs.Equivalence.{EquivalentMachines, FailedNothing, EndAlike, record_in}
@@ -31,7 +31,7 @@ use Rattle.erst_commands.proofs.MachineDialogues.{pair_alike}
 shared_length : (state : MachineState) → IsMachine state → length state.memory.shared.bytes ≡ 8192
 shared_length state machine = sym machine.stands.1.windows.fills.as_long ∙ ap total machine.sizes.shared
 
-area_length : (area : Area) (start at : ℕ) (state : MachineState) (before : List ℕ) → IsMachine state → start + length before ≤ size_of (length state.memory.range) area → length (area_bytes area start state at before).1 ≡ length before
+area_length : (area : Area) (start at : ℕ) (state : MachineState) (before : List ℕ) → IsMachine state → start + length before ≤ size_of (length state.memory.range) area → length (bytes_read (Inside area start) state at before).1 ≡ length before
 area_length Device start at state before machine fits = refl
 area_length Scratch start at state before machine fits = length-part state.memory.scratch start (length before) (omega (arith, fits, machine.sizes.scratch))
 area_length LogRange start at state before machine fits = length-part state.memory.range start (length before) fits
@@ -44,7 +44,7 @@ location_length (Inside area start) at state before machine fits = area_length a
 location_length (Beyond area address) at state before machine fits = refl
 location_length (Nowhere address) at state before machine fits = refl
 
-area_left : (area : Area) (start at : ℕ) (state : MachineState) (before : List ℕ) (fault : SpaceFault) → (area_bytes area start state at before).0 ≡ Err fault → (area_bytes area start state at before).1 ≡ before
+area_left : (area : Area) (start at : ℕ) (state : MachineState) (before : List ℕ) (fault : SpaceFault) → (bytes_read (Inside area start) state at before).0 ≡ Err fault → (bytes_read (Inside area start) state at before).1 ≡ before
 area_left Device start at state before fault is = refl
 area_left Scratch start at state before fault is = absurd (cc)
 area_left LogRange start at state before fault is = absurd (cc)
@@ -68,7 +68,7 @@ whole_length whole out len is fits = omega (arith, length-append whole (drop len
 module _ (tells : Type 0) where
   copies_length : (address : ℕ) (before after : List ℕ) (state : MachineState) (answer : Result (Unit {0}) ClientError) (new : MachineState) → IsMachine state → CopiesOut (Allows tells) address before after state answer new → length after ≡ length before
   copies_length address before after state answer new machine copies =
-      let fits = location_length (location_at state address (length before)) address state before machine (location_placed (length state.memory.range) (Memory address) (length before)) in
+      let fits = location_length (location_of state (Memory address) (length before)) address state before machine (location_placed (length state.memory.range) (Memory address) (length before)) in
       elim copies as (λ answer new copies. length after ≡ length before) [
         | IsFilled new allowed ↦ ap (λ (xs : List ℕ). length xs) allowed.1 ∙ fits
         | IsNotFilled fault new allowed ↦ ap (λ (xs : List ℕ). length xs) allowed.1 ∙ fits
@@ -79,7 +79,7 @@ module _ (tells : Type 0) where
   copies_left address len out whole state answer new error copies = elim copies as (λ answer new copies. copied answer len ≡ Err error → whole ++ drop len out ≡ out) [
     | IsFilled new allowed ↦ λ is. absurd (cc)
     | IsNotFilled fault new allowed ↦ λ is.
-        ap (λ (xs : List ℕ). xs ++ drop len out) (allowed.1 ∙ location_left (location_at state address (length (take len out))) address state (take len out) fault (sym allowed.0)) ∙ take-append-drop {A = ℕ} len out
+        ap (λ (xs : List ℕ). xs ++ drop len out) (allowed.1 ∙ location_left (location_of state (Memory address) (length (take len out))) address state (take len out) fault (sym allowed.0)) ∙ take-append-drop {A = ℕ} len out
   ]
 
   module _ (client : ClientState) (id : ℕ) (out : List ℕ) (budget : ℕ) (first : MachineState) where

@@ -23,7 +23,7 @@ use Rattle.erst_client.specs.Commands.{Counts, Names, counted as count_answer, n
 use Rattle.erst_client.specs.Steps.{steps_of}
 use Rattle.erst_device.specs.StoreCalls.{FoundNext, Counted}
 use Rattle.erst_device.specs.DeviceState.{DeviceState, given_up}
-use Rattle.erst_device.specs.Actions.{IsAllowed, found, counted}
+use Rattle.erst_device.specs.Actions.{found, counted}
 use Rattle.erst_device.proofs.EffectLemmas.{faults_rise}
 use Rattle.erst_machine.specs.MachineState.{MachineState, records_of}
 use Rattle.erst_machine.specs.Allowed.{Allows, ActsOn}
@@ -34,6 +34,7 @@ use Rattle.erst_commands.proofs.ActionCases.{finds_next, counts}
 use Rattle.erst_commands.proofs.OwnProgramLemmas.{steps-count, steps-next}
 use Rattle.erst_commands.proofs.MachineSteps.{acted_is}
 use Rattle.erst_commands.proofs.SharedLemmas.{differ}
+use Rattle.erst_device.proofs.Words.{IsAllowed}
 
 -- what the store says of a call that only looks, from the store with its execution given up
 equivalent_from : (old new : StoreView) → DividesAlike (abandoned old) new → DividesAlike old new

@@ -20,10 +20,11 @@ use Rattle.erst_machine.specs.declared.areas.Register.{Register}
 use Rattle.erst_machine.specs.declared.areas.Register.TheVariants.{Action, Value, NoRegister}
 use Rattle.erst_machine.specs.Areas.{place_location, register_at}
 use Rattle.erst_machine.specs.Memories.{MemoryState, bytes_in, with_bytes}
-use Rattle.erst_machine.specs.MachineState.{MachineState, location_of, location_at}
-use Rattle.erst_machine.specs.Allowed.{ActsOn, write_of, RegisterWritten, AreaWritten, NumberWritten, number_read, area_read, register_read, put_in, area_bytes, bytes_read, area_stored, bytes_stored, copy_fault, copied_from, copied_to, copied, copy_of, Allows}
+use Rattle.erst_machine.specs.MachineState.{MachineState, location_of}
+use Rattle.erst_machine.specs.Allowed.{ActsOn, write_of, RegisterWritten, NumberWritten, number_read, register_read, put_in, bytes_read, bytes_stored, copy_fault, copied_to, copied, copy_of, Allows}
 use Rattle.erst_commands.specs.Equivalence.{DeviceOutline, MachineOutline, device_outline, machine_outline, EquivalentMachines, FailedNothing, bytes_shown, any_buffer, answered, AskAlike}
 use Rattle.erst_commands.proofs.DeviceOutlines.{Became, became, became_alike}
+use Rattle.erst_machine.proofs.Words.{copied_from}
 
 pub same_machine : (s t : MachineOutline) → s.device ≡ t.device → s.memory ≡ t.memory → s.handover ≡ t.handover → s.waited ≡ t.waited → s ≡ t
 same_machine s t device memory handover waited =
@@ -73,7 +74,7 @@ module _ (tells : Type 0) (told : tells) (one other : MachineState) (equivalent 
   register_alike Value at width = ap (λ (o : MachineOutline). Ok o.device.value) equivalent
   register_alike NoRegister at width = refl
 
-  area_alike : (area : Area) (start at : ℕ) (width : Width) → area_read area start one at width ≡ area_read area start other at width
+  area_alike : (area : Area) (start at : ℕ) (width : Width) → number_read (Inside area start) one at width ≡ number_read (Inside area start) other at width
   area_alike Device start at width = register_alike (register_at start width) at width
   area_alike Scratch start at width = ap (λ (o : MachineOutline). Ok (number_at (bytes_in Scratch o.memory) start (bits width / 8))) equivalent
   area_alike LogRange start at width = ap (λ (o : MachineOutline). Ok (number_at (bytes_in LogRange o.memory) start (bits width / 8))) equivalent
@@ -91,8 +92,8 @@ module _ (tells : Type 0) (told : tells) (one other : MachineState) (equivalent 
       ap (λ (o : MachineOutline). part (bytes_in area o.memory) start (length before)) equivalent ∙ ap (λ (n : ℕ). part (bytes_in area other.memory) start n) long
 
   -- what a read of bytes answers, and what it shows
-  filled_alike : (area : Area) (start at : ℕ) (before buffer : List ℕ) → length before ≡ length buffer → ((area_bytes area start one at before).0 ≡ (area_bytes area start other at buffer).0)
-      × (bytes_shown (area_bytes area start one at before).0 (area_bytes area start one at before).1 ≡ bytes_shown (area_bytes area start other at buffer).0 (area_bytes area start other at buffer).1)
+  filled_alike : (area : Area) (start at : ℕ) (before buffer : List ℕ) → length before ≡ length buffer → ((bytes_read (Inside area start) one at before).0 ≡ (bytes_read (Inside area start) other at buffer).0)
+      × (bytes_shown (bytes_read (Inside area start) one at before).0 (bytes_read (Inside area start) one at before).1 ≡ bytes_shown (bytes_read (Inside area start) other at buffer).0 (bytes_read (Inside area start) other at buffer).1)
   filled_alike Device start at before buffer long = (refl, refl)
   filled_alike Scratch start at before buffer long = (refl, part_alike Scratch start before buffer long)
   filled_alike LogRange start at before buffer long = (refl, part_alike LogRange start before buffer long)
@@ -108,7 +109,7 @@ module _ (tells : Type 0) (told : tells) (one other : MachineState) (equivalent 
 
   -- writes of bytes, and copies
   area_stored_alike : (area : Area) (start at : ℕ) (bytes : List ℕ) →
-      BothDo (area_stored area start one at bytes).0 (area_stored area start other at bytes).0 (area_stored area start one at bytes).1 (area_stored area start other at bytes).1
+      BothDo (bytes_stored (Inside area start) one at bytes).0 (bytes_stored (Inside area start) other at bytes).0 (bytes_stored (Inside area start) one at bytes).1 (bytes_stored (Inside area start) other at bytes).1
   area_stored_alike Device start at bytes = record { answer = refl; equivalent = equivalent }
   area_stored_alike Handover start at bytes = record { answer = refl; equivalent = equivalent }
   area_stored_alike BootErrors start at bytes = record { answer = refl; equivalent = equivalent }
@@ -152,7 +153,7 @@ module _ (tells : Type 0) (told : tells) (one other : MachineState) (equivalent 
         → BothDo x y one_after other_after
     written_put area start first second = record { answer = first.0 ∙ sym second.0; equivalent = become_alike one_after other_after _ _ first.1 second.1 (put_alike area start (spelled (bits width / 8) value)) }
 
-    written_area : (area : Area) (start : ℕ) → AreaWritten tells area start one (write_of at width value x) one_after → AreaWritten tells area start other (write_of at width value y) other_after → BothDo x y one_after other_after
+    written_area : (area : Area) (start : ℕ) → NumberWritten tells (Inside area start) one (write_of at width value x) one_after → NumberWritten tells (Inside area start) other (write_of at width value y) other_after → BothDo x y one_after other_after
     written_area Device start first second = written_register (register_at start width) first second
     written_area Handover start first second = record { answer = first.0 ∙ sym second.0; equivalent = become_alike one_after other_after one other first.1 second.1 equivalent }
     written_area BootErrors start first second = record { answer = first.0 ∙ sym second.0; equivalent = become_alike one_after other_after one other first.1 second.1 equivalent }
@@ -187,8 +188,8 @@ module _ (tells : Type 0) (told : tells) (one other : MachineState) (equivalent 
 
   copy_both : (from target n : ℕ) (x y : Result (Unit {0}) SpaceFault) (one_after other_after : MachineState) → Allows tells one (Copy from target n x) one_after → Allows tells other (Copy from target n y) other_after → BothDo x y one_after other_after
   copy_both from target n x y one_after other_after first second =
-      let own = copied_alike (copy_fault (location_at one from n) from) (copy_fault (location_at one target n) target) (location_at one from n) (location_at one target n) n in
-      let moved : copy_of (location_at other from n) (location_at other target n) other from target n ≡ copy_of (location_at one from n) (location_at one target n) other from target n =
+      let own = copied_alike (copy_fault (location_of one (Memory from) n) from) (copy_fault (location_of one (Memory target) n) target) (location_of one (Memory from) n) (location_of one (Memory target) n) n in
+      let moved : copy_of (location_of other (Memory from) n) (location_of other (Memory target) n) other from target n ≡ copy_of (location_of one (Memory from) n) (location_of one (Memory target) n) other from target n =
       ap (λ (o : MachineOutline). copy_of (place_location (length o.memory.range) (Memory from) n) (place_location (length o.memory.range) (Memory target) n) other from target n) (sym equivalent) in
       both x y one_after other_after _ _ _ _ first.0 (second.0 ∙ ap (λ (p : Result (Unit {0}) SpaceFault × MachineState). p.0) moved) first.1 (second.1 ∙ ap (λ (p : Result (Unit {0}) SpaceFault × MachineState). p.1) moved)
       own.answer own.equivalent
@@ -196,9 +197,9 @@ module _ (tells : Type 0) (told : tells) (one other : MachineState) (equivalent 
   pub fill_both : (at : ℕ) (before buffer after afterwards : List ℕ) (x y : Result (Unit {0}) SpaceFault) (one_after other_after : MachineState) → length before ≡ length buffer → Allows tells one (ReadBytes at before after x) one_after
       → Allows tells other (ReadBytes at buffer afterwards y) other_after → (x ≡ y) × (bytes_shown x after ≡ bytes_shown y afterwards) × EquivalentMachines one_after other_after
   fill_both at before buffer after afterwards x y one_after other_after long first second =
-      let location : Location = location_at one at (length before) in
-      let moved : bytes_read (location_at other at (length buffer)) other at buffer ≡ bytes_read location other at buffer =
-      ap (λ (n : ℕ). bytes_read (location_at other at n) other at buffer) (sym long) ∙ ap (λ (s : Location). bytes_read s other at buffer) (same_location (Memory at) (length before)) in
+      let location : Location = location_of one (Memory at) (length before) in
+      let moved : bytes_read (location_of other (Memory at) (length buffer)) other at buffer ≡ bytes_read location other at buffer =
+      ap (λ (n : ℕ). bytes_read (location_of other (Memory at) n) other at buffer) (sym long) ∙ ap (λ (s : Location). bytes_read s other at buffer) (same_location (Memory at) (length before)) in
       let same = bytes_alike location at before buffer long in
       let other_answer : y ≡ (bytes_read location other at buffer).0 = second.0 ∙ ap (λ (p : Result (Unit {0}) SpaceFault × List ℕ). p.0) moved in
       let other_bytes : afterwards ≡ (bytes_read location other at buffer).1 = second.1 ∙ ap (λ (p : Result (Unit {0}) SpaceFault × List ℕ). p.1) moved in (
@@ -210,9 +211,9 @@ module _ (tells : Type 0) (told : tells) (one other : MachineState) (equivalent 
 
   put_both : (at : ℕ) (bytes : List ℕ) (x y : Result (Unit {0}) SpaceFault) (one_after other_after : MachineState) → Allows tells one (WriteBytes at bytes x) one_after → Allows tells other (WriteBytes at bytes y) other_after → BothDo x y one_after other_after
   put_both at bytes x y one_after other_after first second =
-      let location : Location = location_at one at (length bytes) in
+      let location : Location = location_of one (Memory at) (length bytes) in
       let own = stored_alike location at bytes in
-      let moved : bytes_stored (location_at other at (length bytes)) other at bytes ≡ bytes_stored location other at bytes =
+      let moved : bytes_stored (location_of other (Memory at) (length bytes)) other at bytes ≡ bytes_stored location other at bytes =
       ap (λ (s : Location). bytes_stored s other at bytes) (same_location (Memory at) (length bytes)) in
       both x y one_after other_after _ _ _ _ first.0 (second.0 ∙ ap (λ (p : Result (Unit {0}) SpaceFault × MachineState). p.0) moved) first.1 (second.1 ∙ ap (λ (p : Result (Unit {0}) SpaceFault × MachineState). p.1) moved)
       own.answer own.equivalent

@@ -19,8 +19,9 @@ use Rattle.erst_interp.specs.Straight.{IsStraight, TakesOnly, StoresOnly, Does, 
 use Rattle.erst_client.specs.Steps.{steps_of}
 use Rattle.erst_machine.specs.MachineState.{MachineState}
 use Rattle.erst_machine.specs.Allowed.{Allows, ActsOn}
-use Rattle.erst_machine.specs.OwnTables.{action_at, value_at, own_entries, act, give, is_one, answer}
+use Rattle.erst_machine.specs.OwnTables.{own_entries, act, give, is_one, answer}
 use Rattle.erst_commands.specs.OwnPrograms.{with_value, takes_value, tells_value, given_to, answer_of, OwnRun, IsMade, StopsAtOnce, StopsBefore, StopsBehind, OwnProgramsRun}
+use Rattle.erst_machine.proofs.Words.{action_at, value_at}
 
 -- straight programs over the machine
 abbrev pub StraightRuns : Type 0 → Type 0

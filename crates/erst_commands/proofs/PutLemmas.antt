@@ -6,10 +6,11 @@ use Rattle.apei_space.specs.Calls.{WriteBytes}
 use Rattle.erst_client.specs.declared.errors.ClientError.{ClientError}
 use Rattle.erst_client.specs.declared.errors.ClientError.TheVariants.{Range}
 use Rattle.erst_client.specs.Commands.{address_in, Puts, NotPut, NotMarked, IsPut}
-use Rattle.erst_machine.specs.MachineState.{MachineState, IsMachine, location_at}
+use Rattle.erst_machine.specs.MachineState.{MachineState, IsMachine, location_of}
 use Rattle.erst_machine.specs.Allowed.{Allows}
 use Rattle.erst_machine.proofs.KeptLemmas.{kept_allowed}
 use Rattle.erst_machine.proofs.CrashTrail.{stored_store}
+use Rattle.apei_tables.specs.declared.registers.Place.TheVariants.{Memory}
 
 -- it leaves the store alone and a machine one, and what refuses it is the space
 pub record HasPut (old : MachineState) (result : Result (Unit {0}) ClientError) (new : MachineState) : Type 0 where
@@ -22,7 +23,7 @@ same_error one other e = cc
 
 module _ (tells : Type 0) where
   put_store : (old new : MachineState) (at : ℕ) (bytes : List ℕ) (answer : Result (Unit {0}) SpaceFault) → Allows tells old (WriteBytes at bytes answer) new → new.device.store ≡ old.device.store
-  put_store old new at bytes answer allowed = ap (λ (m : MachineState). m.device.store) allowed.1 ∙ stored_store (location_at old at (length bytes)) old at bytes
+  put_store old new at bytes answer allowed = ap (λ (m : MachineState). m.device.store) allowed.1 ∙ stored_store (location_of old (Memory at) (length bytes)) old at bytes
 
   pub has_put : (address : ℕ) (bytes : List ℕ) (old : MachineState) (result : Result (Unit {0}) ClientError) (new : MachineState) → Puts (Allows tells) address bytes old result new → HasPut old result new
   has_put address bytes old result new puts = elim puts as (λ result new puts. HasPut old result new) [

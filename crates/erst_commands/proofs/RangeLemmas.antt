@@ -14,9 +14,11 @@ use Rattle.erst_client.proofs.RefusalLemmas.{length_fits}
 use Rattle.erst_machine.specs.declared.areas.Area.TheVariants.{Scratch, LogRange}
 use Rattle.erst_machine.specs.declared.areas.Location.{Location}
 use Rattle.erst_machine.specs.declared.areas.Location.TheVariants.{Inside, Beyond, Nowhere}
-use Rattle.erst_machine.specs.Areas.{memory_location, first_location, memory_areas}
+use Rattle.erst_machine.specs.Areas.{first_location, place_location}
 use Rattle.erst_commands.specs.Changes.{HoldsRecord}
 use Rattle.erst_commands.specs.Writes.{marked, id_of}
+use Rattle.erst_machine.proofs.Words.{memory_areas}
+use Rattle.apei_tables.specs.declared.registers.Place.TheVariants.{Memory}
 
 -- n bytes of the log range, from its start, from the record's length, and from its mark on
 location_of_tests : (in_range all : Bool) (at place limit : ℕ) → in_range ≡ true → all ≡ true
@@ -28,16 +30,16 @@ location_of_tests in_range all at place limit held whole =
 not_empty : (n : ℕ) (location : Location) → 0 < n → cond {A = Location} (eqb n 0) (Inside Scratch 0) location ≡ location
 not_empty n location some = ap (λ (b : Bool). cond {A = Location} b (Inside Scratch 0) location) (ne_eqb n 0 (λ e. absurd (omega (arith, e, some))))
 
-pub location-start : (reach n : ℕ) → 0 < n → n ≤ reach → memory_location reach 0x100000 n ≡ Inside LogRange 0
+pub location-start : (reach n : ℕ) → 0 < n → n ≤ reach → place_location reach (Memory 0x100000) n ≡ Inside LogRange 0
 location-start reach n some fits =
     not_empty n (first_location reach memory_areas 0x100000 n) some
     ∙ location_of_tests _ _ 0x100000 0 (0x100000 + reach) (lt-ltb 0x100000 (0x100000 + reach) (omega (arith, some, fits))) (le-leb (0x100000 + n) (0x100000 + reach) (omega (arith, fits)))
 
-pub location-length : (reach : ℕ) → 24 ≤ reach → memory_location reach 0x100014 4 ≡ Inside LogRange 20
+pub location-length : (reach : ℕ) → 24 ≤ reach → place_location reach (Memory 0x100014) 4 ≡ Inside LogRange 20
 location-length reach fits =
     location_of_tests _ _ 0x100014 20 (0x100000 + reach) (lt-ltb 0x100014 (0x100000 + reach) (omega (arith, fits))) (le-leb 0x100018 (0x100000 + reach) (omega (arith, fits)))
 
-pub location-mark : (reach : ℕ) → 110 ≤ reach → memory_location reach 0x10006C 2 ≡ Inside LogRange 108
+pub location-mark : (reach : ℕ) → 110 ≤ reach → place_location reach (Memory 0x10006C) 2 ≡ Inside LogRange 108
 location-mark reach fits =
     location_of_tests _ _ 0x10006C 108 (0x100000 + reach) (lt-ltb 0x10006C (0x100000 + reach) (omega (arith, fits))) (le-leb 0x10006E (0x100000 + reach) (omega (arith, fits)))
 

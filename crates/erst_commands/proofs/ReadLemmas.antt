@@ -171,7 +171,7 @@ missing_not_zero : (id least : ℕ) (map : Stored) → IsNextAbove 0 map (Some l
 missing_not_zero id least map next none = elim (cases_eq id 0) [
   | inl zero_id ↦
       let is : named id least ≡ least = ap (λ (b : Bool). cond {A = ℕ} b least id) (eq-eqb id 0 zero_id) in
-      let kept = some_kept (get map least) next.here in
+      let kept = some_kept (get map least) next.1 in
       absurd (none-some kept.0 (sym (ap (λ (n : ℕ). get map n) (sym is) ∙ none) ∙ kept.1))
   | inr other ↦
       let is : named id least ≡ id = ap (λ (b : Bool). cond {A = ℕ} b least id) (ne_eqb id 0 other) in
@@ -193,7 +193,7 @@ module _ (tells : Type 0) (told : tells) (first start : MachineState) (machine :
       let there : start.device.store ≡ store = ap (λ (d : DeviceState). d.store) is in
       let asked = has_asked tells told first start store (Some least) looks.leaves there elsewhere in
       let next = looks.answer told in
-      let kept = some_kept (get (records_of first) least) next.here in
+      let kept = some_kept (get (records_of first) least) next.1 in
       let other = missing_not_zero id least (records_of first) next none in
       let some = len_some (records_of first) least kept.0 kept.1 in
       IsQuiet NotFound (record { no_read = ap (λ (d : DeviceState). d.reading) is; no_change = asked.looked.idle }) (ap (λ (d : DeviceState). judged (number_of d.status)) is)

@@ -12,8 +12,8 @@ use Rattle.record_model.specs.Records.{Stored, is_reserved}
 use Rattle.record_model.specs.RecordMap.{Command, Write, Clear, Refusal, Failed as refused_for_good, NoSpace as no_space, NotFound as not_found, refusal_of, changes_of, made_by}
 use Rattle.record_model.proofs.MapLemmas.{after-done}
 use Rattle.record_model.proofs.RefusalLemmas.{changes_of-clear, changes_of-refused}
-use Rattle.record_store.specs.Store.{StoreView, Pending, Idle, stored, slots_for, KeepsMap, DividesAlike, abandoned}
-use Rattle.record_store.specs.Answers.{HasFaultsOf, HasDoubtAtStart, RefusesWrite, RefusesClear, EndsCopies, copies_of}
+use Rattle.record_store.specs.Store.{StoreView, Pending, Idle, stored, slots_for, KeepsMap, DividesAlike, abandoned, IsInDoubt, IsReady}
+use Rattle.record_store.specs.Answers.{HasFaultsOf, RefusesWrite, RefusesClear, EndsCopies, copies_of, ByFault}
 use Rattle.record_store.specs.Calls.{OnlyStarts}
 use Rattle.record_store.specs.declared.errors.StoreError.{StoreError}
 use Rattle.record_store.specs.declared.errors.StoreError.TheVariants as errors
@@ -85,7 +85,7 @@ base_unasked first start there cursor elsewhere = record {
   elsewhere = elsewhere;
 }
 
-pub idle_after : (new : StoreView) (error : StoreError) → HasDoubtAtStart new (Err error) → new.pending ≡ Idle
+pub idle_after : (new : StoreView) (error : StoreError) → ByFault {T = Unit {0}} (Err error) (IsInDoubt new) (IsReady new) → new.pending ≡ Idle
 idle_after new (errors.NoSpace free) doubt = doubt.idle
 idle_after new (errors.LastGeneration id) doubt = doubt.idle
 idle_after new errors.NotFound doubt = doubt.idle
@@ -239,7 +239,7 @@ module _ (tells : Type 0) (told : tells) (first start : MachineState) (id : ℕ)
       (sym answer.1) (write_leads first.device.store.layout id bytes (slots_for store (length bytes)) (records_of first) taken)))
 
   write_error : (store : StoreView) (error : StoreError) → is_reserved id ≡ false → RefusesWrite (abandoned first.device.store) store id bytes error → HasFaultsOf {T = Unit {0}} first.device.store.flash.faults store.flash.faults (Err error)
-      → HasDoubtAtStart store (Err error) → EndsCopies {T = Unit {0}} (abandoned first.device.store) store (Err error) → start.device.store ≡ store → start.device.status ≡ status_of error
+      → ByFault {T = Unit {0}} (Err error) (IsInDoubt store) (IsReady store) → EndsCopies {T = Unit {0}} (abandoned first.device.store) store (Err error) → start.device.store ≡ store → start.device.status ≡ status_of error
       → UnstartedAnswer first start id (Write id bytes)
   write_error store (errors.NoSpace free) usable refuses cause doubt ended there status =
       let facts = refused_start first start store id usable there doubt.certain cause ended in
@@ -322,7 +322,7 @@ module _ (tells : Type 0) (told : tells) (first start : MachineState) (id : ℕ)
       (subst (λ (p : Pending). Leads 1 first.device.store.layout p (records_of first) (made_by (Clear id) (records_of first))) (sym answer.1) (tt, inr refl, (refl, refl)))
 
   clear_error : (store : StoreView) (error : StoreError) → is_reserved id ≡ false → RefusesClear (abandoned first.device.store) store id error → HasFaultsOf {T = Unit {0}} first.device.store.flash.faults store.flash.faults (Err error)
-      → HasDoubtAtStart store (Err error) → EndsCopies {T = Unit {0}} (abandoned first.device.store) store (Err error) → start.device.store ≡ store → start.device.status ≡ status_of error
+      → ByFault {T = Unit {0}} (Err error) (IsInDoubt store) (IsReady store) → EndsCopies {T = Unit {0}} (abandoned first.device.store) store (Err error) → start.device.store ≡ store → start.device.status ≡ status_of error
       → UnstartedAnswer first start id (Clear id)
   clear_error store (errors.NoSpace free) usable refuses cause doubt ended there status = absurd refuses
   clear_error store (errors.LastGeneration number) usable refuses cause doubt ended there status = absurd refuses

@@ -5,8 +5,8 @@ use Rattle.std.specs.FinMap.{get}
 use Rattle.base_model.specs.Layout.{Layout}
 use Rattle.record_model.specs.Records.{Stored}
 use Rattle.record_model.specs.RecordMap.{Refusal, Write, Clear, Failed, NoSpace, NotFound, Empty, TooLong, refusal_of}
-use Rattle.record_store.specs.Store.{StoreView, Pending, Idle, Writing, Clearing, stored, map_after, pending_after, doubt_after, IsReady, KeepsMap, DividesAlike, abandoned}
-use Rattle.record_store.specs.Answers.{HasFaultsOf, HasDoubtOf, EndsCopies, copies_in, copies_of, copies_pending}
+use Rattle.record_store.specs.Store.{StoreView, Pending, Idle, Writing, Clearing, stored, map_after, pending_after, IsReady, KeepsMap, DividesAlike, abandoned, IsInDoubt}
+use Rattle.record_store.specs.Answers.{HasFaultsOf, EndsCopies, copies_in, copies_of, copies_pending, ByFault}
 use Rattle.record_store.specs.Calls.{OnlyLooks, OnlyStarts}
 use Rattle.record_store.specs.declared.errors.StoreError.{StoreError}
 use Rattle.record_store.specs.declared.errors.StoreError.TheVariants as errors
@@ -19,6 +19,7 @@ use Rattle.erst_device.specs.Starts.{status_after}
 use Rattle.erst_device.proofs.ActionLemmas.{kept_map}
 use Rattle.erst_device.proofs.EffectLemmas.{without_fault}
 use Rattle.erst_commands.specs.Equivalence.{StoreOutline, unplaced, store_outline, FailsNothing}
+use Rattle.record_store.proofs.Words.{doubt_after}
 
 -- two outlines whose parts are the same
 pub same_outline : (s t : StoreOutline) → s.layout ≡ t.layout → s.records ≡ t.records → s.steps ≡ t.steps → s.in_doubt ≡ t.in_doubt → s.pending ≡ t.pending → s.copies ≡ t.copies → s ≡ t
@@ -70,7 +71,7 @@ status_by (Some TooLong) = statuses.Failed
 pub no_fault : (T : Type 0) (old new : StoreView) → FailsNothing old new → HasFaultsOf {T = T} old.flash.faults new.flash.faults (Err errors.Flash) → ⊥
 no_fault T old new quiet cause = quiet cause.1
 
-pub is_ready : {T : Type 0} (old new : StoreView) (result : Result T StoreError) → FailsNothing old new → HasFaultsOf old.flash.faults new.flash.faults result → HasDoubtOf new result → IsReady new
+pub is_ready : {T : Type 0} (old new : StoreView) (result : Result T StoreError) → FailsNothing old new → HasFaultsOf old.flash.faults new.flash.faults result → ByFault result (IsInDoubt new) (IsReady new) → IsReady new
 is_ready old new (Ok done) quiet cause doubt = doubt
 is_ready old new (Err (errors.NoSpace free)) quiet cause doubt = doubt
 is_ready old new (Err (errors.LastGeneration id)) quiet cause doubt = doubt

@@ -4,7 +4,7 @@ use Rattle.base_model.specs.Bytes.{part, number_at}
 use Rattle.base_model.specs.Faults.{Rose}
 use Rattle.record_model.specs.Records.{is_reserved}
 use Rattle.record_model.specs.RecordMap.{Command, Refusal, Failed as refused_for_good, NoSpace as no_space, NotFound as not_found, Empty as empty, refusal_of, after, changes_of}
-use Rattle.record_store.specs.Store.{Idle, IsBeforeOrAfter, DividesAlike, abandoned}
+use Rattle.record_store.specs.Store.{Idle, DividesAlike, abandoned, KeepsOrMakes, stored}
 use Rattle.cper_frame.specs.Reading.{id_place}
 use Rattle.record_store.specs.Answers.{copies_of}
 use Rattle.erst_interp.specs.declared.stops.RunStop.TheVariants.{Budget}
@@ -38,7 +38,7 @@ pub record HoldsRecord (range : List ℕ) (id : ℕ) (bytes : List ℕ) : Type 0
 -- whatever is answered: power lost on the way leaves the records from before the command or after it, it makes no more changes than
 -- its own and one for a second copy, nothing is pending, the cursor stays, and beside the device only the waits are others
 pub record ChangeLeaves (first last : MachineState) (command : Command) (pauses : ℕ) : Type 0 where
-  pub crash : IsBeforeOrAfter first.device.store last.device.store command
+  pub crash : KeepsOrMakes first.device.store last.device.store (after first.device.store.layout command (stored first.device.store))
   pub few : last.device.store.flash.steps ≤ first.device.store.flash.steps + 1 + changes_of first.device.store.layout command (records_of first)
   pub idle : last.device.store.pending ≡ Idle
   pub equivalent : DividesAlike first.device.store last.device.store

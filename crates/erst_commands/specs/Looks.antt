@@ -2,7 +2,7 @@
 use Rattle.std.specs.Prelude.{◌≡◌, ℕ, ◌+◌, ◌≤◌, false, Option, Some, None, Result, Ok, Err}
 use Rattle.std.specs.FinMap.{len}
 use Rattle.base_model.specs.Faults.{Rose}
-use Rattle.record_model.specs.RecordMap.{IsLeast, IsNextAbove}
+use Rattle.record_model.specs.RecordMap.{IsNextAbove}
 use Rattle.record_store.specs.Store.{Idle, KeepsMap, DividesAlike, abandoned}
 use Rattle.record_store.specs.Answers.{copies_of}
 use Rattle.erst_interp.specs.declared.stops.RunStop.TheVariants.{Budget}
@@ -40,7 +40,7 @@ pub data CountMade (first last : MachineState) : Result ℕ ClientError → Type
 
 -- what GET_RECORD_IDENTIFIER does: the least stored identifier above the cursor, which becomes the cursor
 pub data NextMade (first last : MachineState) : Result (Option ℕ) ClientError → Type 0 where
-  IsFound : (id : ℕ) → HasAsked first last → IsLeast first.device.cursor (records_of first) id → last.device.cursor ≡ id → NextMade first last (Ok (Some id))
+  IsFound : (id : ℕ) → HasAsked first last → IsNextAbove first.device.cursor (records_of first) (Some id) → last.device.cursor ≡ id → NextMade first last (Ok (Some id))
   IsAtEnd : HasAsked first last → IsNextAbove first.device.cursor (records_of first) None → last.device.cursor ≡ 0 → NextMade first last (Ok None)
   IsNotFound : HasFailed first last → NextMade first last (Err Hardware)
 

@@ -29,8 +29,9 @@ use Rattle.erst_device.specs.Statuses.{status_of}
 use Rattle.erst_device.specs.StoreCalls.{Stepped, ReadOut, FoundNext, Counted}
 use Rattle.erst_device.specs.DeviceState.{DeviceState, IsStill, IsRunning, Reads, Changes, given_up}
 use Rattle.erst_device.specs.Starts.{Starts, HasLength, FindsNone, Misses, GoesBeyond, Finds, named}
-use Rattle.erst_device.specs.Actions.{Acts, Begins, Ends, Steps, Shows, Tells, FindsNext, Counts, begun_by, told_by, IsAllowed, found, counted, shown}
-use Rattle.erst_device.specs.Registers.{reading_of, is_nothing, seen, StandsWithin, IsReading, Runs, started}
+use Rattle.erst_device.specs.Actions.{Acts, Begins, Ends, Steps, Shows, Tells, FindsNext, Counts, begun_by, told_by, found, counted, shown}
+use Rattle.erst_device.specs.Registers.{reading_of, is_nothing, seen, IsReading, Runs, started}
+use Rattle.erst_device.proofs.Words.{IsAllowed}
 
 -- What runs
 
@@ -221,28 +222,29 @@ unfolding first_of
 some_first x y m n same = ap first_of same
 
 -- the record of a read that runs is stored, and is not longer than the bytes that it is read to: so only a fault can end it
-pub reads_or_fails : (store : StoreView) (id offset : ℕ) (before after : List ℕ) (result : Result ℕ StoreError) → is_reserved id ≡ false → StandsWithin store id offset
+pub reads_or_fails : (store : StoreView) (id offset : ℕ) (before after : List ℕ) (result : Result ℕ StoreError) → is_reserved id ≡ false
+    → ((size : ℕ) × HasLength (stored store) id size × (offset + size ≤ reach_of (room_of store.layout)))
     → length before ≡ reach_of (room_of store.layout) - offset → AnswersRead store id before after result → FailsByFlash result
 reads_or_fails store id offset before after (Ok size) usable held long answer = tt
 reads_or_fails store id offset before after (Err (errors.NoSpace free)) usable held long answer = absurd answer
 reads_or_fails store id offset before after (Err (errors.LastGeneration other)) usable held long answer = absurd answer
 reads_or_fails store id offset before after (Err errors.NotFound) usable held long answer =
-    let l = held.long in
+    let l = held.1 in
     let taken = read_taken store.layout id (stored store) (l.body, l.generation) (let some = len_some (stored store) id (l.body, l.generation) l.here in omega arith) usable l.here in
     let clash : Some NotFound ≡ None = sym answer.0 ∙ taken in absurd (cc)
 reads_or_fails store id offset before after (Err errors.Empty) usable held long answer =
-    let l = held.long in
+    let l = held.1 in
     let taken = read_taken store.layout id (stored store) (l.body, l.generation) (let some = len_some (stored store) id (l.body, l.generation) l.here in omega arith) usable l.here in
     let clash : Some Empty ≡ None = sym answer.0 ∙ taken in absurd (cc)
 reads_or_fails store id offset before after (Err errors.Flash) usable held long answer = refl
 reads_or_fails store id offset before after (Err (errors.Small need)) usable held long answer =
-    let l = held.long in
+    let l = held.1 in
     let a = answer.0 in
     let same = sym l.here ∙ a.1.1 in
     let bodies : l.body ≡ a.0 = some_first l.body a.0 l.generation a.1.0 same in
     let needs : need ≡ length a.0 = a.2 in
     let lengths : length l.body ≡ length a.0 = ap length bodies in
-    let fits = held.fits in
+    let fits = held.2 in
     let short : length before < need = answer.1 in
     let size_is = l.size_is in
     absurd (omega arith)

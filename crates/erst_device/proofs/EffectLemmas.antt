@@ -6,8 +6,8 @@ use Rattle.base_model.specs.Flash.{LosesOnlyByChange}
 use Rattle.base_model.proofs.CrashLemmas.{Leaves-none, Leaves-weaker}
 use Rattle.record_model.specs.Records.{Stored}
 use Rattle.record_model.proofs.RefusalLemmas.{allowed_not_zero}
-use Rattle.record_store.specs.Store.{StoreView, Pending, Idle, Writing, Clearing, stored, map_after, doubt_after, IsBusy, DividesAlike, KeepsMap, KeepsOrMakes, abandoned}
-use Rattle.record_store.specs.Answers.{HasFaultsOf, EndsCopies, UnlessFlash, copies_in, copies_of}
+use Rattle.record_store.specs.Store.{StoreView, Pending, Idle, Writing, Clearing, stored, map_after, IsBusy, DividesAlike, KeepsMap, KeepsOrMakes, abandoned}
+use Rattle.record_store.specs.Answers.{HasFaultsOf, EndsCopies, copies_in, copies_of, ByFault}
 use Rattle.record_store.specs.declared.errors.StoreError.{StoreError}
 use Rattle.record_store.specs.declared.errors.StoreError.TheVariants as errors
 use Rattle.erst_entries.specs.declared.actions.Action.{Action}
@@ -18,11 +18,13 @@ use Rattle.erst_device.specs.declared.status.CommandStatus.{CommandStatus}
 use Rattle.erst_device.specs.declared.status.CommandStatus.TheVariants.{Success, HardwareNotAvailable, Failed}
 use Rattle.erst_device.specs.Statuses.{status_of}
 use Rattle.erst_device.specs.StoreCalls.{Stepped, ReadOut, FoundNext, Counted}
-use Rattle.erst_device.specs.DeviceState.{DeviceState, records, IsStill, IsRunning, Reads, Changes, is_busy, is_running, given_up}
+use Rattle.erst_device.specs.DeviceState.{DeviceState, records, IsStill, IsRunning, Reads, Changes, is_busy, given_up}
 use Rattle.erst_device.specs.Starts.{Starts, NoneBegun, WritesDummy, NoDraft, Writes, LookFails, FindsNone, Misses, GoesBeyond, Finds, NoneToClear, Clears, status_after}
-use Rattle.erst_device.specs.Actions.{Acts, Begins, Ends, SetsOffset, SetsId, Waits, Executes, NoneRuns, Steps, Shows, Tells, FindsNext, Counts, Ignores, told_by, begun_by, waits, IsAllowed, stepped, shown, found, counted}
-use Rattle.erst_device.specs.Effects.{start_asks, asks, makes_change, Effect}
+use Rattle.erst_device.specs.Actions.{Acts, Begins, Ends, SetsOffset, SetsId, Waits, Executes, NoneRuns, Steps, Shows, Tells, FindsNext, Counts, Ignores, told_by, begun_by, waits, stepped, shown, found, counted}
+use Rattle.erst_device.specs.Effects.{asks, makes_change, Effect}
 use Rattle.erst_device.proofs.ActionLemmas.{kept_map}
+use Rattle.record_store.proofs.Words.{doubt_after}
+use Rattle.erst_device.proofs.Words.{is_running, start_asks, IsAllowed}
 
 -- Between two states of the store: the records that are made, and by how many changes
 
@@ -76,7 +78,7 @@ error_rose : (T : Type 0) (before after : ℕ) (error : StoreError) → HasFault
 error_rose T before after error cause is = status_rose T before after error cause (ap status_of is)
 
 -- what holds of every answer but a fault holds where no fault was counted
-pub without_fault : {T : Type 0} (P : Type 0) (before after : ℕ) (result : Result T StoreError) → HasFaultsOf before after result → UnlessFlash result P → (Rose before after → ⊥) → P
+pub without_fault : {T : Type 0} (P : Type 0) (before after : ℕ) (result : Result T StoreError) → HasFaultsOf before after result → ByFault result (Unit {0}) P → (Rose before after → ⊥) → P
 without_fault P before after (Ok done) cause holds quiet = holds
 without_fault P before after (Err (errors.NoSpace free)) cause holds quiet = holds
 without_fault P before after (Err (errors.LastGeneration id)) cause holds quiet = holds

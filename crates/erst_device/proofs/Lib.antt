@@ -1,3 +1,4 @@
+pub mod Words
 pub mod ActionLemmas
 pub mod EffectLemmas
 pub mod TimingLemmas

@@ -1,6 +1,6 @@
 -- The serialization actions (ACPI 6.4, section 18.5.1.1) as the device carries them out, one case for each row of its table.
 -- `tells` says whether the flash tells its content; `range` is the log range.
-use Rattle.std.specs.Prelude.{◌≡◌, ℕ, ◌-◌, ◌^◌, ◌<◌, Bool, true, false, if◌then◌else◌, List, take, drop, ◌++◌, Option, Some, None, Result, Ok, Err}
+use Rattle.std.specs.Prelude.{◌≡◌, ℕ, ◌-◌, ◌^◌, ◌<◌, Bool, true, false, if◌then◌else◌, List, take, drop, ◌++◌, Option, Some, None, IfSome, Result, Ok, Err, IfOk}
 use Rattle.base_model.specs.Layout.{Layout, room_of, reach_of}
 use Rattle.record_model.specs.Records.{is_reserved}
 use Rattle.record_store.specs.Store.{StoreView, IsBusy}
@@ -66,12 +66,6 @@ abbrev pub shown : ℕ → Result ℕ StoreError → StoreView → DeviceState �
 shown id (Ok size) store old = record old { value = 0; status = Success; cursor = id; reading = None; store = store }
 shown id (Err error) store old = record old { value = 0; status = status_of error; reading = None; store = store }
 
--- an identifier that a look finds is one that a record can have, and a number of 64 bits
-abbrev pub IsAllowed : Result (Option ℕ) StoreError → Type 0
-IsAllowed (Ok (Some id)) = (is_reserved id ≡ false) × (id < 2 ^ 64)
-IsAllowed (Ok None) = Unit {0}
-IsAllowed (Err error) = Unit {0}
-
 -- the device after a look for the next identifier
 abbrev pub found : Result (Option ℕ) StoreError → StoreView → DeviceState → DeviceState
 found (Ok (Some id)) store old = record old { value = id; cursor = id; store = store }
@@ -83,7 +77,8 @@ abbrev pub counted : Result ℕ StoreError → StoreView → DeviceState → Dev
 counted (Ok n) store old = record old { value = n; store = store }
 counted (Err error) store old = record old { value = 2 ^ 32 - 1; store = store }
 
--- an action, none where the code is that of none: the device and the log range before it, and both after it
+-- an action, none where the code is that of none: the device and the log range before it, and both after it. An identifier that is found is
+-- one that a record can have, and a number of 64 bits
 pub data Acts (tells : Type 0) (old : DeviceState) (range : List ℕ) : Option Action → DeviceState → List ℕ → Type 0 where
   Begins : (action : Action) (operation : Operation) → begun_by action ≡ Some operation
       → Acts tells old range (Some action) (record (given_up old) { operation = Some operation; offset = 0; id = 0; status = Success }) range
@@ -99,7 +94,8 @@ pub data Acts (tells : Type 0) (old : DeviceState) (range : List ℕ) : Option A
       → ReadOut tells old.store store id (drop old.offset range) out result
       → Acts tells old range (Some CheckBusyStatus) (shown id result store old) (take old.offset range ++ out)
   Tells : (action : Action) (number : ℕ) → told_by action old.status old.store.layout ≡ Some number → Acts tells old range (Some action) (record old { value = number }) range
-  FindsNext : (store : StoreView) (result : Result (Option ℕ) StoreError) → FoundNext tells (given_up old).store store old.cursor result → IsAllowed result
+  FindsNext : (store : StoreView) (result : Result (Option ℕ) StoreError) → FoundNext tells (given_up old).store store old.cursor result
+      → IfOk result (λ next. IfSome next (λ id. (is_reserved id ≡ false) × (id < 2 ^ 64)))
       → Acts tells old range (Some GetRecordIdentifier) (found result store (given_up old)) range
   Counts : (store : StoreView) (result : Result ℕ StoreError) → Counted tells (given_up old).store store result
       → Acts tells old range (Some GetRecordCount) (counted result store (given_up old)) range

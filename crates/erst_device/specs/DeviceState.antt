@@ -1,5 +1,5 @@
 -- What is seen of the device: its registers, the execution that runs, and its store.
-use Rattle.std.specs.Prelude.{◌≡◌, ℕ, Bool, true, false, is_some, if◌then◌else◌, Option, Some, None}
+use Rattle.std.specs.Prelude.{◌≡◌, ℕ, Bool, true, false, Option, Some, None}
 use Rattle.record_model.specs.Records.{Stored}
 use Rattle.record_store.specs.Store.{StoreView, Pending, Idle, Writing, Clearing, stored, IsBusy, abandoned}
 use Rattle.record_store.specs.Answers.{copies_in, copies_pending}
@@ -40,9 +40,6 @@ abbrev pub is_busy : Pending → Bool
 is_busy Idle = false
 is_busy (Writing id bytes slots replaces made) = true
 is_busy (Clearing id) = true
-
-abbrev pub is_running : DeviceState → Bool
-is_running state = if is_some state.reading then true else is_busy state.store.pending
 
 -- the device with its execution abandoned
 abbrev pub given_up : DeviceState → DeviceState

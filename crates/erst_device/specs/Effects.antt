@@ -7,23 +7,25 @@ use Rattle.record_store.specs.Store.{map_after, DividesAlike, KeepsOrMakes}
 use Rattle.record_store.specs.Answers.{copies_of}
 use Rattle.erst_entries.specs.declared.actions.Action.{Action}
 use Rattle.erst_entries.specs.declared.actions.Action.TheVariants.{ExecuteOperation, CheckBusyStatus, GetRecordIdentifier, GetRecordCount}
-use Rattle.erst_device.specs.declared.registers.Operation.{Operation}
 use Rattle.erst_device.specs.declared.registers.Operation.TheVariants.{Write, Read, Clear, Dummy}
 use Rattle.erst_device.specs.declared.status.CommandStatus.TheVariants.{HardwareNotAvailable}
 use Rattle.erst_device.specs.Drafts.{draft_at}
-use Rattle.erst_device.specs.DeviceState.{DeviceState, records, IsRunning, is_busy, is_running, given_up}
+use Rattle.erst_device.specs.DeviceState.{DeviceState, records, IsRunning, is_busy, given_up}
 
--- whether the start of an operation asks the store: one of a write or clear that is refused before that does not
-abbrev pub start_asks : Option Operation → DeviceState → List ℕ → Bool
-start_asks None state range = false
-start_asks (Some Write) state range = is_some (draft_at state.offset range)
-start_asks (Some Read) state range = true
-start_asks (Some Clear) state range = if is_reserved state.id then false else true
-start_asks (Some Dummy) state range = false
-
--- whether an action asks the store for what it knows. A store in doubt then ends a second copy before all else
+-- whether an action asks the store for what it knows. A store in doubt then ends a second copy before all else. The start of a write or
+-- clear that is refused before that does not ask
 abbrev pub asks : Option Action → DeviceState → List ℕ → Bool
-asks (Some ExecuteOperation) state range = if is_running state then false else start_asks state.operation state range
+asks (Some ExecuteOperation) state range =
+    if (if is_some state.reading then true else is_busy state.store.pending) then false
+    else elim state.operation [
+      | None ↦ false
+      | Some operation ↦ elim operation [
+        | Write ↦ is_some (draft_at state.offset range)
+        | Read ↦ true
+        | Clear ↦ if is_reserved state.id then false else true
+        | Dummy ↦ false
+      ]
+    ]
 asks (Some GetRecordIdentifier) state range = true
 asks (Some GetRecordCount) state range = true
 asks action state range = false

@@ -37,16 +37,11 @@ seen registers store = record {
 }
 
 -- the record of a read that runs is stored, and does not go beyond the log range
-pub record StandsWithin (store : StoreView) (id offset : ℕ) : Type 0 where
-  pub size : ℕ
-  pub long : HasLength (stored store) id size
-  pub fits : offset + size ≤ reach_of (room_of store.layout)
-
 pub record IsReading (tells : Type 0) (id offset : ℕ) (store : StoreView) : Type 0 where
   pub ready : IsReady store
   pub usable : is_reserved id ≡ false
   pub within : offset ≤ reach_of (room_of store.layout)
-  pub held : tells → StandsWithin store id offset
+  pub held : tells → (size : ℕ) × HasLength (stored store) id size × (offset + size ≤ reach_of (room_of store.layout))
 
 -- what runs is so
 abbrev pub Runs : Type 0 → Running → ℕ → StoreView → Type 0

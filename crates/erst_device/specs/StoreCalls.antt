@@ -5,15 +5,15 @@ use Rattle.base_model.specs.Flash.{LosesOnlyByChange, raised}
 use Rattle.base_model.specs.Layout.{room_of}
 use Rattle.record_model.specs.Records.{parts_of}
 use Rattle.record_model.specs.RecordMap.{IsNextAbove}
-use Rattle.record_store.specs.Store.{StoreView, Clearing, stored, map_after, IsReady, IsWriteOf, DividesAlike, KeepsOrMakes}
-use Rattle.record_store.specs.Answers.{HasFaultsOf, EndsAtFault, StartsWrite, StartsClear, IsStep, HasStepped, AnswersRead, FailsByFlash, ReadsExactly, StartsByItself, AnswersByItself, TakesReads}
+use Rattle.record_store.specs.Store.{StoreView, Clearing, stored, map_after, IsReady, DividesAlike, KeepsOrMakes, Writing}
+use Rattle.record_store.specs.Answers.{HasFaultsOf, EndsAtFault, StartsWrite, StartsClear, IsStep, HasStepped, AnswersRead, FailsByFlash, ReadsExactly, AnswersByItself, TakesReads}
 use Rattle.record_store.specs.Calls.{OnlyLooks, OnlyStarts}
 use Rattle.record_store.specs.declared.errors.StoreError.{StoreError}
 
 -- the start of a write of a record
 pub record StartedWrite (tells : Type 0) (old new : StoreView) (id : ℕ) (bytes : List ℕ) (result : Result (Unit {0}) StoreError) : Type 0 where
   pub answer : tells → StartsWrite old new id bytes result
-  pub pending : OnOk result (IsWriteOf id bytes new.pending)
+  pub pending : OnOk result ((slots : List ℕ) × ((replaces : Bool) × (new.pending ≡ Writing id bytes slots replaces 0)))
   pub still : old.in_doubt ≡ false → ReadsExactly tells (λ _. 2 * parts_of (room_of old.layout) (length bytes)) old new result
   pub reads : TakesReads (λ _. raised (2 * parts_of (room_of old.layout) (length bytes))) old new result
   pub leaves : OnlyStarts tells old new result
@@ -22,7 +22,7 @@ pub record StartedWrite (tells : Type 0) (old new : StoreView) (id : ℕ) (bytes
 pub record StartedClear (tells : Type 0) (old new : StoreView) (id : ℕ) (result : Result (Unit {0}) StoreError) : Type 0 where
   pub answer : tells → StartsClear old new id result
   pub pending : OnOk result (new.pending ≡ Clearing id)
-  pub still : old.in_doubt ≡ false → StartsByItself old new result
+  pub still : old.in_doubt ≡ false → AnswersByItself (new.flash ≡ old.flash) old new result
   pub reads : TakesReads (λ _ reads. reads) old new result
   pub leaves : OnlyStarts tells old new result
 
@@ -54,7 +54,7 @@ pub record ReadOut (tells : Type 0) (old new : StoreView) (id : ℕ) (before aft
 pub record FoundNext (tells : Type 0) (old new : StoreView) (cursor : ℕ) (result : Result (Option ℕ) StoreError) : Type 0 where
   pub answer : tells → IfOk result (IsNextAbove cursor (stored old))
   pub error : FailsByFlash result
-  pub still : old.in_doubt ≡ false → AnswersByItself old new result
+  pub still : old.in_doubt ≡ false → AnswersByItself (new ≡ old) old new result
   pub reads : TakesReads (λ _ reads. reads) old new result
   pub leaves : OnlyLooks tells old new result
 
@@ -63,6 +63,6 @@ pub record Counted (tells : Type 0) (old new : StoreView) (result : Result ℕ S
   pub answer : tells → IfOk result (λ n. n ≡ len (stored old))
   pub within : IfOk result (λ n. n ≤ old.layout.slots)
   pub error : FailsByFlash result
-  pub still : old.in_doubt ≡ false → AnswersByItself old new result
+  pub still : old.in_doubt ≡ false → AnswersByItself (new ≡ old) old new result
   pub reads : TakesReads (λ _ reads. reads) old new result
   pub leaves : OnlyLooks tells old new result

@@ -5,7 +5,8 @@ use Rattle.std.proofs.lemmas.List.{length-replicate}
 use Rattle.base_model.specs.Bytes.{part}
 use Rattle.apei_tables.specs.declared.registers.Place.TheVariants.{Memory}
 use Rattle.apei_space.specs.RamState.{RamState, located, filled}
-use Rattle.erst_machine.specs.Memories.{MemoryState, shared_windows, zeros, cleared}
+use Rattle.erst_machine.specs.Memories.{MemoryState, zeros, cleared}
+use Rattle.erst_machine.proofs.Words.{shared_windows}
 
 pub shared_found : (start n : ℕ) → 0 < n → start + n ≤ 8192 → located shared_windows (Memory (0x300000 + start)) n ≡ Ok start
 shared_found start n some within = grind (arith, nat_tests)

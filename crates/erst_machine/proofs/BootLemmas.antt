@@ -10,10 +10,11 @@ use Rattle.record_store.specs.Store.{StoreView, IsOpened}
 use Rattle.ghes_ack.specs.Maps.{HasWindows, HasAckBits, window, memory_started}
 use Rattle.ghes_ack.specs.Handovers.{HandoverState, StandsFor, fresh}
 use Rattle.erst_device.specs.DeviceState.{DeviceState, at_first}
-use Rattle.erst_machine.specs.Memories.{MemoryState, HasSizes, IsLaid, cleared, blank}
+use Rattle.erst_machine.specs.Memories.{MemoryState, HasSizes, cleared, blank}
 use Rattle.erst_machine.specs.MachineState.{IsMachine, own_map, reach_in}
 use Rattle.erst_machine.specs.Boots.{IsBooted}
 use Rattle.erst_machine.proofs.KeptLemmas.{nothing_laid}
+use Rattle.erst_machine.proofs.Words.{IsLaid}
 
 fills : FillsWindows blank
 fills = record { apart = (lit< tt, tt, tt); as_long = sym (length-replicate {A = ℕ} 8192 0) }

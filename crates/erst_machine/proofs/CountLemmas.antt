@@ -4,7 +4,7 @@ use Rattle.std.proofs.lemmas.Option.{none-some}
 use Rattle.std.specs.FinMap.{len}
 use Rattle.record_model.specs.Records.{Entry, entry_at, selected, stored_in, is_first, count_below, one_if}
 use Rattle.record_model.proofs.FirstLemmas.{first_count}
-use Rattle.record_store.specs.Store.{StoreView, Pending, stored, doubt_after, IsReady}
+use Rattle.record_store.specs.Store.{StoreView, Pending, stored, IsReady}
 use Rattle.record_store.specs.declared.errors.StoreError.{StoreError}
 use Rattle.record_store.specs.declared.errors.StoreError.TheVariants.{NoSpace, LastGeneration, NotFound, Empty, Flash, Small}
 use Rattle.erst_entries.specs.declared.actions.Action.{Action}
@@ -12,6 +12,7 @@ use Rattle.erst_entries.specs.declared.actions.Action.TheVariants.{GetRecordCoun
 use Rattle.erst_device.specs.StoreCalls.{Counted}
 use Rattle.erst_device.specs.DeviceState.{DeviceState, records, given_up}
 use Rattle.erst_device.specs.Actions.{Acts, Begins, Ends, SetsOffset, SetsId, Waits, Executes, NoneRuns, Steps, Shows, Tells, FindsNext, Counts, Ignores, told_by, begun_by, waits, counted}
+use Rattle.record_store.proofs.Words.{doubt_after}
 
 one_few : (b : Bool) → one_if b ≤ 1
 one_few true = omega arith

@@ -25,11 +25,13 @@ use Rattle.erst_machine.specs.declared.areas.Register.{Register}
 use Rattle.erst_machine.specs.declared.areas.Register.TheVariants.{Action, Value, NoRegister}
 use Rattle.erst_machine.specs.Areas.{register_at}
 use Rattle.erst_machine.specs.Memories.{MemoryState}
-use Rattle.erst_machine.specs.MachineState.{MachineState, IsMachine, location_of, location_at, records_of, told_of}
-use Rattle.erst_machine.specs.Allowed.{NumberWrite, write_of, RegisterWritten, AreaWritten, NumberWritten, area_stored, bytes_stored, copied_to, copied_from, copied, Allows}
-use Rattle.erst_machine.specs.Events.{store_answer, Restarts, Event, Accessed, Warmed, Powered, Submitted, Turned, Laid, Submits, Happens}
-use Rattle.erst_machine.specs.Shown.{changes_of, shown_by, Shows, ShowsEach, made_at_register, made_in, made_at, made_by_call, made_by_event, GoesOn, IsShown, IsOneMove}
+use Rattle.erst_machine.specs.MachineState.{MachineState, IsMachine, location_of, records_of, told_of}
+use Rattle.erst_machine.specs.Allowed.{NumberWrite, write_of, RegisterWritten, NumberWritten, bytes_stored, copied_to, copied, Allows}
+use Rattle.erst_machine.specs.Events.{Restarts, Event, Accessed, Warmed, Powered, Submitted, Turned, Laid, Submits, Happens}
+use Rattle.erst_machine.specs.Shown.{changes_of, shown_by, Shows, ShowsEach, made_at, made_by_event, GoesOn, IsShown}
 use Rattle.erst_machine.proofs.KeptLemmas.{kept_allowed}
+use Rattle.erst_machine.proofs.Words.{store_answer, made_at_register, IsOneMove, copied_from}
+use Rattle.apei_tables.specs.declared.registers.Place.TheVariants.{Memory}
 
 DividesAlike-refl : (store : StoreView) → DividesAlike store store
 DividesAlike-refl store = record { layout = refl; size = refl; sector_size = refl }
@@ -65,7 +67,7 @@ of_register tells told Value old new write h = by_state old new _ h.1 refl
 of_register tells told NoRegister old new write h = by_state old new _ h.1 refl
 
 of_area : (tells : Type 0) (told : tells) (area : Area) (start : ℕ) (old new : MachineState) (write : NumberWrite) →
-    AreaWritten tells area start old write new → IsOneMove old (made_in area start old write.width (write.value % 2 ^ 32)) new
+    NumberWritten tells (Inside area start) old write new → IsOneMove old (made_at (Inside area start) old write.width (write.value % 2 ^ 32)) new
 of_area tells told Device start old new write h = of_register tells told (register_at start write.width) old new write h
 of_area tells told Scratch start old new write h = by_state old new _ h.1 refl
 of_area tells told LogRange start old new write h = by_state old new _ h.1 refl
@@ -79,7 +81,7 @@ of_write tells told (Inside area start) old new write h = of_area tells told are
 of_write tells told (Beyond area address) old new write h = by_state old new _ h.1 refl
 of_write tells told (Nowhere address) old new write h = by_state old new _ h.1 refl
 
-area_store : (area : Area) (start : ℕ) (old : MachineState) (at : ℕ) (bytes : List ℕ) → (area_stored area start old at bytes).1.device.store ≡ old.device.store
+area_store : (area : Area) (start : ℕ) (old : MachineState) (at : ℕ) (bytes : List ℕ) → (bytes_stored (Inside area start) old at bytes).1.device.store ≡ old.device.store
 area_store Device start old at bytes = refl
 area_store Scratch start old at bytes = refl
 area_store LogRange start old at bytes = refl
@@ -103,13 +105,13 @@ copied_store None (Some fault) source target old n = refl
 copied_store None None source target old n = copied_to_store target old (copied_from source old n)
 
 -- each access of the machine
-pub one_access : (tells : Type 0) (told : tells) (old : MachineState) (call : Call) (new : MachineState) → Allows tells old call new → IsOneMove old (made_by_call old call) new
+pub one_access : (tells : Type 0) (told : tells) (old : MachineState) (call : Call) (new : MachineState) → Allows tells old call new → IsOneMove old (made_by_event old (Accessed call)) new
 one_access tells told old (Read at width answer) new h = by_state old new _ h.1 refl
 one_access tells told old (Write at width value answer) new h = of_write tells told (location_of old at (bits width / 8)) old new (write_of (address_of at) width value answer) h
 one_access tells told old (Wait micros) new h = by_state old new _ h refl
-one_access tells told old (Copy from to n answer) new h = by_state old new _ h.1 (copied_store _ _ (location_at old from n) (location_at old to n) old n)
+one_access tells told old (Copy from to n answer) new h = by_state old new _ h.1 (copied_store _ _ (location_of old (Memory from) n) (location_of old (Memory to) n) old n)
 one_access tells told old (ReadBytes at before after answer) new h = by_state old new _ h.2 refl
-one_access tells told old (WriteBytes at bytes answer) new h = by_state old new _ h.1 (stored_store (location_at old at (length bytes)) old at bytes)
+one_access tells told old (WriteBytes at bytes answer) new h = by_state old new _ h.1 (stored_store (location_of old (Memory at) (length bytes)) old at bytes)
 
 pub shown_alike : (old new : MachineState) (image : List ℕ) → DividesAlike old.device.store new.device.store → shown_by new image ≡ shown_by old image
 shown_alike old new image equivalent = ap (λ (l : Layout). records_in l image) equivalent.layout
@@ -188,11 +190,11 @@ trail_is_shown moves unfaulted one_move first last trail is = record {
 }
 
 pub accesses_are_shown : (tells : Type 0) (told : tells) (first last : MachineState) (trail : List (Move Call MachineState)) → Trail (Allows tells) first trail last →
-    IsShown made_by_call first trail last
-accesses_are_shown tells told first last trail is = trail_is_shown (Allows tells) made_by_call (one_access tells told) first last trail is
+    IsShown (λ state call. made_by_event state (Accessed call)) first trail last
+accesses_are_shown tells told first last trail is = trail_is_shown (Allows tells) (λ state call. made_by_event state (Accessed call)) (one_access tells told) first last trail is
 
 pub reached_is_shown : (tells : Type 0) (told : tells) (first last : MachineState) → Reaches (Allows tells) first last →
-    (trail : List (Move Call MachineState)) × Trail (Allows tells) first trail last × IsShown made_by_call first trail last
+    (trail : List (Move Call MachineState)) × Trail (Allows tells) first trail last × IsShown (λ state call. made_by_event state (Accessed call)) first trail last
 reached_is_shown tells told first last reaches =
     let found = trail_of (Allows tells) first last reaches in (found.0, found.1, accesses_are_shown tells told first last found.0 found.1)
 

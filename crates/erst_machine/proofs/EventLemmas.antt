@@ -26,10 +26,11 @@ use Rattle.erst_device.specs.DeviceState.{DeviceState}
 use Rattle.erst_machine.specs.declared.errors.BootError.{BootError}
 use Rattle.erst_machine.specs.declared.errors.FatalError.{FatalError}
 use Rattle.erst_machine.specs.declared.errors.FatalError.TheVariants.{Long}
-use Rattle.erst_machine.specs.Memories.{MemoryState, HasSizes, IsLaid}
+use Rattle.erst_machine.specs.Memories.{MemoryState, HasSizes}
 use Rattle.erst_machine.specs.MachineState.{MachineState, IsMachine, reach_in}
-use Rattle.erst_machine.specs.Events.{Restarts, Warms, Powers, Submits, Turns, unfit, LaysFatal, Event, Accessed, Warmed, Powered, Submitted, Turned, Laid, Happens}
+use Rattle.erst_machine.specs.Events.{Restarts, Warms, Powers, Submits, Turns, LaysFatal, Event, Accessed, Warmed, Powered, Submitted, Turned, Laid, Happens}
 use Rattle.erst_machine.proofs.KeptLemmas.{kept_allowed, nothing_laid}
+use Rattle.erst_machine.proofs.Words.{IsLaid, unfit}
 
 -- no write to the handover's memory moves its window
 stored_windows : (found : Result ℕ SpaceFault) (ram : RamState) (bytes : List ℕ) → (stored found ram bytes).windows ≡ ram.windows

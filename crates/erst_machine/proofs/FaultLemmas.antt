@@ -12,9 +12,10 @@ use Rattle.erst_machine.specs.declared.areas.Location.TheVariants.{Inside, Beyon
 use Rattle.erst_machine.specs.declared.areas.Register.{Register}
 use Rattle.erst_machine.specs.declared.areas.Register.TheVariants.{Action, Value, NoRegister}
 use Rattle.erst_machine.specs.Areas.{register_at}
-use Rattle.erst_machine.specs.MachineState.{MachineState, location_of, location_at}
-use Rattle.erst_machine.specs.Allowed.{NumberWrite, write_of, RegisterWritten, AreaWritten, NumberWritten, Allows}
+use Rattle.erst_machine.specs.MachineState.{MachineState, location_of}
+use Rattle.erst_machine.specs.Allowed.{NumberWrite, write_of, RegisterWritten, NumberWritten, Allows}
 use Rattle.erst_machine.proofs.CrashTrail.{stored_store, copied_store}
+use Rattle.apei_tables.specs.declared.registers.Place.TheVariants.{Memory}
 
 abbrev NeverFalls : MachineState → MachineState → Type 0
 NeverFalls old new = old.device.store.flash.faults ≤ new.device.store.flash.faults
@@ -31,7 +32,7 @@ of_register tells Value old new write h = by_state old new _ h.1 refl
 of_register tells NoRegister old new write h = by_state old new _ h.1 refl
 
 of_area : (tells : Type 0) (area : Area) (start : ℕ) (old new : MachineState) (write : NumberWrite) →
-    AreaWritten tells area start old write new → NeverFalls old new
+    NumberWritten tells (Inside area start) old write new → NeverFalls old new
 of_area tells Device start old new write h = of_register tells (register_at start write.width) old new write h
 of_area tells Scratch start old new write h = by_state old new _ h.1 refl
 of_area tells LogRange start old new write h = by_state old new _ h.1 refl
@@ -49,9 +50,9 @@ of_access : (tells : Type 0) (old : MachineState) (call : Call) (new : MachineSt
 of_access tells old (Read at width answer) new h = by_state old new _ h.1 refl
 of_access tells old (Write at width value answer) new h = of_write tells (location_of old at (bits width / 8)) old new (write_of (address_of at) width value answer) h
 of_access tells old (Wait micros) new h = by_state old new _ h refl
-of_access tells old (Copy from to n answer) new h = by_state old new _ h.1 (copied_store _ _ (location_at old from n) (location_at old to n) old n)
+of_access tells old (Copy from to n answer) new h = by_state old new _ h.1 (copied_store _ _ (location_of old (Memory from) n) (location_of old (Memory to) n) old n)
 of_access tells old (ReadBytes at before after answer) new h = by_state old new _ h.2 refl
-of_access tells old (WriteBytes at bytes answer) new h = by_state old new _ h.1 (stored_store (location_at old at (length bytes)) old at bytes)
+of_access tells old (WriteBytes at bytes answer) new h = by_state old new _ h.1 (stored_store (location_of old (Memory at) (length bytes)) old at bytes)
 
 pub reached_low : (tells : Type 0) (first last : MachineState) → Reaches (Allows tells) first last → NeverFalls first last
 reached_low tells first last Stays = omega arith

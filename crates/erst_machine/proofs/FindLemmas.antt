@@ -9,7 +9,8 @@ use Rattle.erst_machine.specs.declared.areas.Area.{Area}
 use Rattle.erst_machine.specs.declared.areas.Area.TheVariants.{Device, Scratch, LogRange, Handover, BootErrors, Ports}
 use Rattle.erst_machine.specs.declared.areas.Location.{Location}
 use Rattle.erst_machine.specs.declared.areas.Location.TheVariants.{Inside, Beyond, Nowhere}
-use Rattle.erst_machine.specs.Areas.{base_of, size_of, within, holds, first_location, memory_areas, place_location, all_windows, finds}
+use Rattle.erst_machine.specs.Areas.{base_of, size_of, holds, first_location, place_location, all_windows, finds}
+use Rattle.erst_machine.proofs.Words.{memory_areas, within}
 
 -- an area has the byte of an address
 abbrev Has : ℕ → Area → ℕ → Type 0

@@ -29,10 +29,11 @@ use Rattle.erst_machine.specs.declared.areas.Location.{Location}
 use Rattle.erst_machine.specs.declared.areas.Location.TheVariants.{Inside, Beyond, Nowhere}
 use Rattle.erst_machine.specs.declared.areas.Register.{Register}
 use Rattle.erst_machine.specs.declared.areas.Register.TheVariants.{Action, Value, NoRegister}
-use Rattle.erst_machine.specs.Areas.{base_of, size_of, within, holds, first_location, memory_areas, place_location, IsPlaced, register_at}
-use Rattle.erst_machine.specs.Memories.{MemoryState, bytes_in, IsLaid, zeros, cleared}
-use Rattle.erst_machine.specs.MachineState.{MachineState, IsMachine, location_of, location_at}
-use Rattle.erst_machine.specs.Allowed.{NumberWrite, write_of, RegisterWritten, AreaWritten, NumberWritten, ActsOn, put_in, area_stored, bytes_stored, copied_from, copied_to, copied, copy_of, Allows}
+use Rattle.erst_machine.specs.Areas.{base_of, size_of, holds, first_location, place_location, IsPlaced, register_at}
+use Rattle.erst_machine.specs.Memories.{MemoryState, bytes_in, zeros, cleared}
+use Rattle.erst_machine.specs.MachineState.{MachineState, IsMachine, location_of}
+use Rattle.erst_machine.specs.Allowed.{NumberWrite, write_of, RegisterWritten, NumberWritten, ActsOn, put_in, bytes_stored, copied_to, copied, copy_of, Allows}
+use Rattle.erst_machine.proofs.Words.{memory_areas, IsLaid, copied_from, within}
 
 -- an access that is found in an area lies within it
 within_placed : (reach : ℕ) (area : Area) (at n : ℕ) (ends : Bool) → nat_le (at + n) (base_of area + size_of reach area) ≡ ends → base_of area ≤ at →
@@ -125,7 +126,7 @@ kept_number_put area start old new width value is fits machine =
     kept_same _ new is (kept_put area start old (spelled (bits width / 8) value) (omega arith) machine)
 
 kept_area : (tells : Type 0) (area : Area) (start : ℕ) (old new : MachineState) (write : NumberWrite) →
-    AreaWritten tells area start old write new → start + bits write.width / 8 ≤ size_of (length old.memory.range) area → IsMachine old → IsMachine new
+    NumberWritten tells (Inside area start) old write new → start + bits write.width / 8 ≤ size_of (length old.memory.range) area → IsMachine old → IsMachine new
 kept_area tells Device start old new write h fits machine = kept_register tells (register_at start write.width) old new write h machine
 kept_area tells Handover start old new write h fits machine = kept_same old new h.1 machine
 kept_area tells BootErrors start old new write h fits machine = kept_same old new h.1 machine
@@ -140,7 +141,7 @@ kept_written tells (Beyond area address) old new write h fits machine = kept_sam
 kept_written tells (Nowhere address) old new write h fits machine = kept_same old new h.1 machine
 
 kept_area_stored : (area : Area) (start : ℕ) (old : MachineState) (at : ℕ) (bytes : List ℕ) → start + length bytes ≤ size_of (length old.memory.range) area → IsMachine old →
-    IsMachine (area_stored area start old at bytes).1
+    IsMachine (bytes_stored (Inside area start) old at bytes).1
 kept_area_stored Device start old at bytes fits machine = machine
 kept_area_stored Handover start old at bytes fits machine = machine
 kept_area_stored BootErrors start old at bytes fits machine = machine
@@ -177,10 +178,10 @@ kept_allowed tells old new (Write at width value answer) h machine =
     kept_written tells (location_of old at (bits width / 8)) old new (write_of (address_of at) width value answer) h (location_placed (length old.memory.range) at (bits width / 8)) machine
 kept_allowed tells old new (Wait micros) h machine = kept_same _ new h (record { sizes = machine.sizes; laid = machine.laid; map = machine.map; stands = machine.stands })
 kept_allowed tells old new (Copy from to n answer) h machine =
-    kept_same _ new h.1 (kept_copied _ _ (location_at old from n) (location_at old to n) old n (location_placed (length old.memory.range) (Memory to) n) machine)
+    kept_same _ new h.1 (kept_copied _ _ (location_of old (Memory from) n) (location_of old (Memory to) n) old n (location_placed (length old.memory.range) (Memory to) n) machine)
 kept_allowed tells old new (ReadBytes at before after answer) h machine = kept_same old new h.2 machine
 kept_allowed tells old new (WriteBytes at bytes answer) h machine =
-    kept_same _ new h.1 (kept_stored (location_at old at (length bytes)) old at bytes (location_placed (length old.memory.range) (Memory at) (length bytes)) machine)
+    kept_same _ new h.1 (kept_stored (location_of old (Memory at) (length bytes)) old at bytes (location_placed (length old.memory.range) (Memory at) (length bytes)) machine)
 
 pub kept_turn : (old : MachineState) (side : Side) (event : TurnEvent) (handover : HandoverState) (shared : RamState) → IsMachine old → handover.map ≡ old.handover.map →
     shared.windows ≡ old.memory.shared.windows → ((m : HandoverMachine) → StandsFor old.handover old.memory.shared m → IsTurned side event handover shared m) →

@@ -1,3 +1,4 @@
+pub mod Words
 pub mod AreaLemmas
 pub mod KeptLemmas
 pub mod BootLemmas

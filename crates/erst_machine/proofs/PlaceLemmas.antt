@@ -7,7 +7,9 @@ use Rattle.erst_machine.specs.declared.areas.Area.{Area}
 use Rattle.erst_machine.specs.declared.areas.Area.TheVariants.{Device, Scratch, LogRange, Handover, BootErrors, Ports}
 use Rattle.erst_machine.specs.declared.areas.Location.{Location}
 use Rattle.erst_machine.specs.declared.areas.Location.TheVariants.{Inside, Beyond, Nowhere}
-use Rattle.erst_machine.specs.Areas.{base_of, size_of, within, holds, area_location, first_location, memory_location, place_location, place_of}
+use Rattle.erst_machine.specs.Areas.{base_of, size_of, holds, area_location, first_location, place_location, place_of}
+use Rattle.apei_tables.specs.declared.registers.Place.TheVariants.{Memory}
+use Rattle.erst_machine.proofs.Words.{within}
 
 ends_in : (area : Area) (base size k n : ℕ) (ends : Bool) → nat_le (base + k + n) (base + size) ≡ ends → k + n ≤ size →
     (if ends then Inside area (base + k - base) else Beyond area (base + size)) ≡ Inside area k
@@ -55,23 +57,23 @@ one_of : (reach at n : ℕ) (before : List Area) (area : Area) (behind : List Ar
 one_of reach at n [] area behind out rest = ap (λ (location : Location). unwrap_or (area_location reach area at n) location) (none_of reach at n behind rest)
 one_of reach at n (other ∷ before) area behind out rest = skip _ _ _ (area_out reach other at n out.0) (one_of reach at n before area behind out.1 rest)
 
-pub around_scratch : (at reach n : ℕ) → at < 0x100000 → reach ≤ 65536 → 0 < n → memory_location reach at n ≡ unwrap_or (area_location reach Scratch at n) (Nowhere at)
+pub around_scratch : (at reach n : ℕ) → at < 0x100000 → reach ≤ 65536 → 0 < n → place_location reach (Memory at) n ≡ unwrap_or (area_location reach Scratch at n) (Nowhere at)
 around_scratch at reach n below small some = not_none _ _ _ (λ is. grind (arith, nat_tests))
     (one_of reach at n (Device ∷ []) Scratch (Handover ∷ BootErrors ∷ LogRange ∷ []) (inl (omega arith), tt) (inl (omega arith), (inl (omega arith), (inl (omega arith), tt))))
 
-pub around_range : (at reach n : ℕ) → 0x100000 ≤ at → at < 0x200000 → reach ≤ 65536 → 0 < n → memory_location reach at n ≡ unwrap_or (area_location reach LogRange at n) (Nowhere at)
+pub around_range : (at reach n : ℕ) → 0x100000 ≤ at → at < 0x200000 → reach ≤ 65536 → 0 < n → place_location reach (Memory at) n ≡ unwrap_or (area_location reach LogRange at n) (Nowhere at)
 around_range at reach n from below small some = not_none _ _ _ (λ is. grind (arith, nat_tests))
     (one_of reach at n (Device ∷ Scratch ∷ Handover ∷ BootErrors ∷ []) LogRange [] (inl (omega arith), (inr (omega arith), (inl (omega arith), (inl (omega arith), tt)))) tt)
 
-pub around_device : (at reach n : ℕ) → 0x200000 ≤ at → at < 0x300000 → reach ≤ 65536 → 0 < n → memory_location reach at n ≡ unwrap_or (area_location reach Device at n) (Nowhere at)
+pub around_device : (at reach n : ℕ) → 0x200000 ≤ at → at < 0x300000 → reach ≤ 65536 → 0 < n → place_location reach (Memory at) n ≡ unwrap_or (area_location reach Device at n) (Nowhere at)
 around_device at reach n from below small some = not_none _ _ _ (λ is. grind (arith, nat_tests))
     (one_of reach at n [] Device (Scratch ∷ Handover ∷ BootErrors ∷ LogRange ∷ []) tt (inr (omega arith), (inl (omega arith), (inl (omega arith), (inr (omega arith), tt)))))
 
-pub around_handover : (at reach n : ℕ) → 0x300000 ≤ at → at < 0x400000 → reach ≤ 65536 → 0 < n → memory_location reach at n ≡ unwrap_or (area_location reach Handover at n) (Nowhere at)
+pub around_handover : (at reach n : ℕ) → 0x300000 ≤ at → at < 0x400000 → reach ≤ 65536 → 0 < n → place_location reach (Memory at) n ≡ unwrap_or (area_location reach Handover at n) (Nowhere at)
 around_handover at reach n from below small some = not_none _ _ _ (λ is. grind (arith, nat_tests))
     (one_of reach at n (Device ∷ Scratch ∷ []) Handover (BootErrors ∷ LogRange ∷ []) (inr (omega arith), (inr (omega arith), tt)) (inl (omega arith), (inr (omega arith), tt)))
 
-pub around_errors : (at reach n : ℕ) → 0x400000 ≤ at → reach ≤ 65536 → 0 < n → memory_location reach at n ≡ unwrap_or (area_location reach BootErrors at n) (Nowhere at)
+pub around_errors : (at reach n : ℕ) → 0x400000 ≤ at → reach ≤ 65536 → 0 < n → place_location reach (Memory at) n ≡ unwrap_or (area_location reach BootErrors at n) (Nowhere at)
 around_errors at reach n from small some = not_none _ _ _ (λ is. grind (arith, nat_tests))
     (one_of reach at n (Device ∷ Scratch ∷ Handover ∷ []) BootErrors (LogRange ∷ []) (inr (omega arith), (inr (omega arith), (inr (omega arith), tt))) (inr (omega arith), tt))
 

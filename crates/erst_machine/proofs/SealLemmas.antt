@@ -11,7 +11,8 @@ use Rattle.erst_entries.specs.Layout.{Erst, entry_spelling, front_spelling, spel
 use Rattle.erst_entries.specs.Tables.{Finished}
 use Rattle.hest_sources.specs.Layout.{ghes_bytes}
 use Rattle.erst_machine.specs.Memories.{zeros}
-use Rattle.erst_machine.specs.OwnTables.{own_header, own_entries, own_count, own_size, own_checksum, own_erst, own_source, own_hest, own_bert_bytes}
+use Rattle.erst_machine.specs.OwnTables.{own_header, own_entries, own_size, own_checksum, own_erst, own_source, own_hest, own_bert_bytes}
+use Rattle.erst_machine.proofs.Words.{own_count}
 
 sum-byte : (front rest : List ℕ) (x : ℕ) → sum (front ++ x ∷ rest) ≡ sum front + (x + sum rest)
 sum-byte front rest x = sum_by-append (λ (n : ℕ). n) front (x ∷ rest) ∙ ap (λ (n : ℕ). sum front + n) (sum_by-cons (λ (n : ℕ). n) x rest)

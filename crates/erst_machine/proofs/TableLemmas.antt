@@ -15,8 +15,9 @@ use Rattle.hest_sources.specs.declared.sources.HestSource.TheVariants.{Ghes as G
 use Rattle.hest_sources.specs.Layout.{ghes_bytes, IsGhes}
 use Rattle.hest_sources.specs.Tables.{IsHest}
 use Rattle.ghes_block.specs.Table.{IsBert}
-use Rattle.erst_machine.specs.OwnTables.{own_header, action_register, value_register, act, give, is_one, answer, tell, told_actions, own_entries, own_size, own_checksum, own_erst, own_source, own_hest, own_bert, own_bert_bytes}
+use Rattle.erst_machine.specs.OwnTables.{own_header, value_register, act, give, is_one, answer, tell, told_actions, own_entries, own_size, own_checksum, own_erst, own_source, own_hest, own_bert, own_bert_bytes}
 use Rattle.erst_machine.proofs.SealLemmas.{count_is}
+use Rattle.erst_machine.proofs.Words.{action_register}
 
 -- entries fit their fields
 pub code_fits : (action : Action) → code_of action < 256

@@ -20,7 +20,8 @@ use Rattle.erst_machine.specs.declared.areas.Register.{Register}
 use Rattle.erst_machine.specs.declared.areas.Register.TheVariants.{Action, Value, NoRegister}
 use Rattle.erst_machine.specs.Areas.{is_plain, register_at}
 use Rattle.erst_machine.specs.Memories.{bytes_in, with_bytes}
-use Rattle.erst_machine.specs.MachineState.{MachineState, location_of, location_at}
+use Rattle.erst_machine.specs.MachineState.{MachineState, location_of}
+use Rattle.apei_tables.specs.declared.registers.Place.TheVariants.{Memory}
 
 -- a read of a register: ACTION reads as 0
 abbrev pub register_read : Register → MachineState → ℕ → Width → Result ℕ SpaceFault
@@ -29,12 +30,9 @@ register_read Value state at width = Ok state.device.value
 register_read NoRegister state at width = Err (BadAccess at width)
 
 -- a read of a number
-abbrev pub area_read : Area → ℕ → MachineState → ℕ → Width → Result ℕ SpaceFault
-area_read Device start state at width = register_read (register_at start width) state at width
-area_read area start state at width = Ok (number_at (bytes_in area state.memory) start (bits width / 8))
-
 abbrev pub number_read : Location → MachineState → ℕ → Width → Result ℕ SpaceFault
-number_read (Inside area start) state at width = area_read area start state at width
+number_read (Inside Device start) state at width = register_read (register_at start width) state at width
+number_read (Inside area start) state at width = Ok (number_at (bytes_in area state.memory) start (bits width / 8))
 number_read (Beyond area address) state at width = Err (Unmapped address)
 number_read (Nowhere address) state at width = Err (Unmapped address)
 
@@ -68,36 +66,28 @@ RegisterWritten tells NoRegister old write new = (write.answer ≡ Err (BadAcces
 abbrev pub put_in : Area → ℕ → MachineState → List ℕ → MachineState
 put_in area start state bytes = record state { memory = with_bytes area state.memory (put_at (bytes_in area state.memory) start bytes) }
 
-abbrev pub AreaWritten : Type 0 → Area → ℕ → MachineState → NumberWrite → MachineState → Type 0
-AreaWritten tells Device start old write new = RegisterWritten tells (register_at start write.width) old write new
-AreaWritten tells Handover start old write new = (write.answer ≡ Err (BadAccess write.at write.width)) × (new ≡ old)
-AreaWritten tells BootErrors start old write new = (write.answer ≡ Err (BadAccess write.at write.width)) × (new ≡ old)
-AreaWritten tells area start old write new = (write.answer ≡ Ok tt) × (new ≡ put_in area start old (spelled (bits write.width / 8) write.value))
-
 abbrev pub NumberWritten : Type 0 → Location → MachineState → NumberWrite → MachineState → Type 0
-NumberWritten tells (Inside area start) old write new = AreaWritten tells area start old write new
+NumberWritten tells (Inside Device start) old write new = RegisterWritten tells (register_at start write.width) old write new
+NumberWritten tells (Inside Handover start) old write new = (write.answer ≡ Err (BadAccess write.at write.width)) × (new ≡ old)
+NumberWritten tells (Inside BootErrors start) old write new = (write.answer ≡ Err (BadAccess write.at write.width)) × (new ≡ old)
+NumberWritten tells (Inside area start) old write new =
+    (write.answer ≡ Ok tt) × (new ≡ put_in area start old (spelled (bits write.width / 8) write.value))
 NumberWritten tells (Beyond area address) old write new = (write.answer ≡ Err (Unmapped address)) × (new ≡ old)
 NumberWritten tells (Nowhere address) old write new = (write.answer ≡ Err (Unmapped address)) × (new ≡ old)
 
 -- what a reader's buffer holds after a read of bytes, and the answer
-abbrev pub area_bytes : Area → ℕ → MachineState → ℕ → List ℕ → Result (Unit {0}) SpaceFault × List ℕ
-area_bytes Device start state at before = (Err (BadAccess at B8), before)
-area_bytes area start state at before = (Ok tt, part (bytes_in area state.memory) start (length before))
-
 abbrev pub bytes_read : Location → MachineState → ℕ → List ℕ → Result (Unit {0}) SpaceFault × List ℕ
-bytes_read (Inside area start) state at before = area_bytes area start state at before
+bytes_read (Inside Device start) state at before = (Err (BadAccess at B8), before)
+bytes_read (Inside area start) state at before = (Ok tt, part (bytes_in area state.memory) start (length before))
 bytes_read (Beyond area address) state at before = (Err (Unmapped address), before)
 bytes_read (Nowhere address) state at before = (Err (Unmapped address), before)
 
 -- the answer to a write of bytes, and the state after it
-abbrev pub area_stored : Area → ℕ → MachineState → ℕ → List ℕ → Result (Unit {0}) SpaceFault × MachineState
-area_stored Device start old at bytes = (Err (BadAccess at B8), old)
-area_stored Handover start old at bytes = (Err (BadAccess at B8), old)
-area_stored BootErrors start old at bytes = (Err (BadAccess at B8), old)
-area_stored area start old at bytes = (Ok tt, put_in area start old bytes)
-
 abbrev pub bytes_stored : Location → MachineState → ℕ → List ℕ → Result (Unit {0}) SpaceFault × MachineState
-bytes_stored (Inside area start) old at bytes = area_stored area start old at bytes
+bytes_stored (Inside Device start) old at bytes = (Err (BadAccess at B8), old)
+bytes_stored (Inside Handover start) old at bytes = (Err (BadAccess at B8), old)
+bytes_stored (Inside BootErrors start) old at bytes = (Err (BadAccess at B8), old)
+bytes_stored (Inside area start) old at bytes = (Ok tt, put_in area start old bytes)
 bytes_stored (Beyond area address) old at bytes = (Err (Unmapped address), old)
 bytes_stored (Nowhere address) old at bytes = (Err (Unmapped address), old)
 
@@ -108,11 +98,6 @@ copy_fault (Inside area start) at = if is_plain area then None else Some (NotMem
 copy_fault (Beyond area address) at = if is_plain area then Some (Unmapped address) else Some (NotMemory at)
 copy_fault (Nowhere address) at = Some (Unmapped address)
 
-abbrev pub copied_from : Location → MachineState → ℕ → List ℕ
-copied_from (Inside area start) state n = part (bytes_in area state.memory) start n
-copied_from (Beyond area address) state n = []
-copied_from (Nowhere address) state n = []
-
 abbrev pub copied_to : Location → MachineState → List ℕ → MachineState
 copied_to (Inside area start) state bytes = put_in area start state bytes
 copied_to (Beyond area address) state bytes = state
@@ -122,7 +107,8 @@ copied_to (Nowhere address) state bytes = state
 abbrev pub copied : Option SpaceFault → Option SpaceFault → Location → Location → MachineState → ℕ → Result (Unit {0}) SpaceFault × MachineState
 copied (Some fault) second source target old n = (Err fault, old)
 copied None (Some fault) source target old n = (Err fault, old)
-copied None None source target old n = (Ok tt, copied_to target old (copied_from source old n))
+copied None None source target old n =
+    (Ok tt, copied_to target old (elim source [ Inside area start ↦ part (bytes_in area old.memory) start n | other ↦ [] ]))
 
 abbrev pub copy_of : Location → Location → MachineState → ℕ → ℕ → ℕ → Result (Unit {0}) SpaceFault × MachineState
 copy_of source target old from to n = copied (copy_fault source from) (copy_fault target to) source target old n
@@ -133,11 +119,11 @@ Allows tells old (Read at width answer) new = (answer ≡ number_read (location_
 Allows tells old (Write at width value answer) new = NumberWritten tells (location_of old at (bits width / 8)) old (write_of (address_of at) width value answer) new
 Allows tells old (Wait micros) new = new ≡ record old { waited = min (old.waited + micros) (2 ^ 64 - 1) }
 Allows tells old (Copy from to n answer) new =
-    let outcome = copy_of (location_at old from n) (location_at old to n) old from to n in
+    let outcome = copy_of (location_of old (Memory from) n) (location_of old (Memory to) n) old from to n in
     (answer ≡ outcome.0) × (new ≡ outcome.1)
 Allows tells old (ReadBytes at before after answer) new =
-    let outcome = bytes_read (location_at old at (length before)) old at before in
+    let outcome = bytes_read (location_of old (Memory at) (length before)) old at before in
     (answer ≡ outcome.0) × (after ≡ outcome.1) × (new ≡ old)
 Allows tells old (WriteBytes at bytes answer) new =
-    let outcome = bytes_stored (location_at old at (length bytes)) old at bytes in
+    let outcome = bytes_stored (location_of old (Memory at) (length bytes)) old at bytes in
     (answer ≡ outcome.0) × (new ≡ outcome.1)

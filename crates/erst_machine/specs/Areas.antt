@@ -13,20 +13,16 @@ use Rattle.erst_machine.specs.declared.areas.Location.TheVariants.{Inside, Beyon
 use Rattle.erst_machine.specs.declared.areas.Register.{Register}
 use Rattle.erst_machine.specs.declared.areas.Register.TheVariants.{Action, Value, NoRegister}
 
--- where the memory begins in which the two sides of the handover meet
-abbrev pub handover_at : ℕ
-handover_at = 0x300000
-
--- where each area begins
+-- where each area begins. In that of the handover its two sides meet
 abbrev pub base_of : Area → ℕ
 base_of Device = 0x200000
 base_of Scratch = 0x1000
 base_of LogRange = log_range_at
-base_of Handover = handover_at
+base_of Handover = 0x300000
 base_of BootErrors = 0x400000
 base_of Ports = 0x500
 
--- how many bytes the plain memory, that of the handover, the boot error region and the ports have
+-- how many bytes the plain memory, that of the handover and the boot error region have
 abbrev pub scratch_len : ℕ
 scratch_len = 4096
 
@@ -36,9 +32,6 @@ handover_len = 8192
 abbrev pub region_len : ℕ
 region_len = 16384
 
-abbrev pub ports_len : ℕ
-ports_len = 16
-
 -- how many bytes each area has; the log range has as many as the longest record
 abbrev pub size_of : ℕ → Area → ℕ
 size_of reach Device = 16
@@ -46,39 +39,30 @@ size_of reach Scratch = scratch_len
 size_of reach LogRange = reach
 size_of reach Handover = handover_len
 size_of reach BootErrors = region_len
-size_of reach Ports = ports_len
+size_of reach Ports = 16
 
--- of n bytes from an address on, all are in the area, or the first that is not has this address
-abbrev pub within : Area → ℕ → ℕ → ℕ → ℕ → Location
-within area base size at n = if nat_le (at + n) (base + size) then Inside area (at - base) else Beyond area (base + size)
-
+-- whether an address is one of so many from a base on
 abbrev pub holds : ℕ → ℕ → ℕ → Bool
 holds base size at = nat_le base at && nat_lt at (base + size)
 
--- n bytes whose first one is in an area
+-- n bytes whose first one is in an area: all are in it, or the first that is not has the address behind it
 abbrev pub area_location : ℕ → Area → ℕ → ℕ → Option Location
 area_location reach area at n =
-    if holds (base_of area) (size_of reach area) at then Some (within area (base_of area) (size_of reach area) at n) else None
+    let base = base_of area in
+    let size = size_of reach area in
+    if holds base size at then Some (if nat_le (at + n) (base + size) then Inside area (at - base) else Beyond area (base + size)) else None
 
--- the areas of memory; the device stands first, so that its registers are found by numbers alone
-abbrev pub memory_areas : List Area
-memory_areas = Device ∷ Scratch ∷ Handover ∷ BootErrors ∷ LogRange ∷ []
-
+-- n bytes in the first of these areas that has the first one
 abbrev pub first_location : ℕ → List Area → ℕ → ℕ → Location
 first_location reach [] at n = Nowhere at
 first_location reach (area ∷ areas) at n = unwrap_or (area_location reach area at n) (first_location reach areas at n)
 
--- n bytes of memory; an access of no bytes touches nothing
-abbrev pub memory_location : ℕ → ℕ → ℕ → Location
-memory_location reach at n = if n == 0 then Inside Scratch 0 else first_location reach memory_areas at n
-
--- n bytes of ports
-abbrev pub port_location : ℕ → ℕ → ℕ → Location
-port_location reach at n = first_location reach (Ports ∷ []) at n
-
+-- n bytes of memory or of ports. An access of no bytes of memory touches nothing. The device stands first, so that its registers are
+-- found by numbers alone
 abbrev pub place_location : ℕ → Place → ℕ → Location
-place_location reach (Memory at) n = memory_location reach at n
-place_location reach (Io at) n = port_location reach at n
+place_location reach (Memory at) n =
+    if n == 0 then Inside Scratch 0 else first_location reach (Device ∷ Scratch ∷ Handover ∷ BootErrors ∷ LogRange ∷ []) at n
+place_location reach (Io at) n = first_location reach (Ports ∷ []) at n
 
 -- n bytes from there on are in the area
 abbrev pub IsPlaced : ℕ → ℕ → Location → Type 0

@@ -5,11 +5,9 @@ use Rattle.base_model.specs.Bytes.{joined}
 use Rattle.base_model.specs.Flash.{StaysPowered, raised}
 use Rattle.record_store.specs.Store.{StoreView, IsSettled, doubted, restarted}
 use Rattle.record_store.specs.Calls.{OnlyLooks}
-use Rattle.record_store.specs.declared.errors.StoreError.{StoreError}
 use Rattle.record_store.specs.declared.errors.StoreError.TheVariants.{Flash as StoreFlash}
 use Rattle.apei_space.specs.RamState.{RamState}
 use Rattle.apei_space.specs.Calls.{Call}
-use Rattle.ghes_block.specs.declared.error.BlockError.{BlockError}
 use Rattle.ghes_block.specs.Reading.{checked}
 use Rattle.ghes_ack.specs.declared.events.Side.{Side}
 use Rattle.ghes_ack.specs.declared.events.Event.{Event as TurnEvent}
@@ -29,11 +27,6 @@ use Rattle.erst_machine.specs.Allowed.{Allows}
 use Rattle.ghes_ack.specs.Submissions.{refusal_of}
 use Rattle.ghes_ack.specs.Sides.{Stands}
 
--- the answer of a restart as that of its store
-abbrev pub store_answer : Result ℕ BootError → Result ℕ StoreError
-store_answer (Ok n) = Ok n
-store_answer (Err error) = Err StoreFlash
-
 -- A restart. `before` is the store as its looking finds it, and `memory` what stands in memory afterwards. The registers are as at
 -- first, the store has looked at its slots, which keeps the records, and the handover begins anew: where the flash failed, all but the
 -- look was done. No call of the look finds a flash without power that has it before the first: power that is lost comes back before it
@@ -45,24 +38,20 @@ pub record Restarts (tells : Type 0) (before : StoreView) (memory : MemoryState)
   pub reads : OnOk result (new.device.store.flash.reads ≡ raised (2 * old.device.store.layout.slots) old.device.store.flash.reads)
   pub powered : OnOk result (new.device.store.flash.powered ≡ true)
   pub lit : StaysPowered before.flash new.device.store.flash
-  pub leaves : OnlyLooks tells before new.device.store (store_answer result)
+  pub leaves : OnlyLooks {T = ℕ} tells before new.device.store (elim result [ Ok n ↦ Ok n | Err error ↦ Err StoreFlash ])
   pub copies : tells → KnowsCopies old.device.store
   pub memory_is : new.memory ≡ memory
   pub handover : new.handover ≡ fresh old.handover.map
   pub stands : StandsFor new.handover new.memory.shared (started (window old.handover.map old.memory.shared))
   pub waited : new.waited ≡ old.waited
 
--- the handover's memory after a start
-abbrev pub shared_started : MachineState → RamState
-shared_started old = memory_started old.handover.map old.memory.shared
-
--- a reset: memory stays
+-- a reset: memory stays, but for the handover's, which is started
 abbrev pub Warms : Type 0 → MachineState → Result ℕ BootError → MachineState → Type 0
-Warms tells old result new = Restarts tells (doubted old.device.store) (record old.memory { shared = shared_started old }) old result new
+Warms tells old result new = Restarts tells (doubted old.device.store) (record old.memory { shared = memory_started old.handover.map old.memory.shared }) old result new
 
 -- power was lost and is back: memory is zeros, but for the handover's. Power is back, unless a change on the way lost it again
 pub record Powers (tells : Type 0) (old : MachineState) (result : Result ℕ BootError) (new : MachineState) : Type 0 where
-  pub restarts : Restarts tells (restarted old.device.store) (cleared (length old.memory.range) (shared_started old)) old result new
+  pub restarts : Restarts tells (restarted old.device.store) (cleared (length old.memory.range) (memory_started old.handover.map old.memory.shared)) old result new
   pub back : (new.device.store.flash.powered ≡ true) ⊎ (old.device.store.flash.steps < new.device.store.flash.steps)
 
 -- a block is given to the handover, or refused
@@ -84,14 +73,17 @@ pub record Turns (side : Side) (old : MachineState) (event : TurnEvent) (new : M
   pub device : new.device ≡ old.device
   pub waited : new.waited ≡ old.waited
 
--- the first reason why a block is not laid into a boot error region that has so many bytes left
-abbrev pub unfit : Result ℕ BlockError → ℕ → ℕ → Option FatalError
-unfit (Err error) n left = Some (Malformed error)
-unfit (Ok size) n left = if nat_lt size n then Some (Trailing (n - size)) else (if nat_lt left n then Some (Region n) else None)
-
--- one of more than 4,096 bytes is not looked at
+-- the first reason why a block is not laid into a boot error region that has so many bytes left. One of more than 4,096 bytes is not
+-- looked at
 abbrev pub fatal_refusal : ℕ → List ℕ → Option FatalError
-fatal_refusal left block = if nat_lt 4096 (length block) then Some (Long (length block)) else unfit (checked block) (length block) left
+fatal_refusal left block =
+    if nat_lt 4096 (length block) then Some (Long (length block))
+    else elim (checked block) [
+      | Err error ↦ Some (Malformed error)
+      | Ok size ↦
+          if nat_lt size (length block) then Some (Trailing (length block - size))
+          else (if nat_lt left (length block) then Some (Region (length block)) else None)
+    ]
 
 -- a fatal block is laid behind the last one of the boot error region, at a place of it, or refused
 pub record LaysFatal (old : MachineState) (block : List ℕ) (result : Result ℕ FatalError) (new : MachineState) : Type 0 where

@@ -1,11 +1,12 @@
 -- What is seen of the machine.
-use Rattle.std.specs.Prelude.{◌≡◌, ℕ, ◌+◌, ◌-◌, ◌^◌, length}
+use Rattle.std.specs.Prelude.{◌≡◌, ℕ, ◌+◌, ◌-◌, ◌^◌, List, length}
 use Rattle.base_model.specs.Flash.{Told}
 use Rattle.base_model.specs.Layout.{room_of, reach_of}
 use Rattle.record_model.specs.Records.{Stored}
 use Rattle.apei_tables.specs.declared.registers.Place.{Place}
 use Rattle.apei_tables.specs.declared.registers.Place.TheVariants.{Memory}
 use Rattle.apei_tables.specs.declared.widths.Width.TheVariants.{B64}
+use Rattle.ghes_block.specs.Region.{IsLaidOut}
 use Rattle.ghes_ack.specs.declared.maps.HandoverMap.{HandoverMap}
 use Rattle.ghes_ack.specs.Handovers.{HandoverState}
 use Rattle.ghes_ack.specs.Sides.{Stands}
@@ -14,7 +15,7 @@ use Rattle.erst_machine.specs.declared.areas.Location.{Location}
 use Rattle.erst_machine.specs.declared.contents.Contents.{Contents}
 use Rattle.erst_machine.specs.declared.areas.Area.TheVariants.{Handover}
 use Rattle.erst_machine.specs.Areas.{place_location, base_of}
-use Rattle.erst_machine.specs.Memories.{MemoryState, memory_of, HasSizes, IsLaid}
+use Rattle.erst_machine.specs.Memories.{MemoryState, memory_of, HasSizes}
 
 -- the device over its store, the bytes of memory, the handover, and the sum of all waits in microseconds
 pub record MachineState : Type 0 where
@@ -29,9 +30,6 @@ state_of device contents handover waited = record { device = device; memory = me
 -- where n bytes stand
 abbrev pub location_of : MachineState → Place → ℕ → Location
 location_of state at n = place_location (length state.memory.range) at n
-
-abbrev pub location_at : MachineState → ℕ → ℕ → Location
-location_at state at n = location_of state (Memory at) n
 
 -- where the two sides of the handover meet: the machine's one error source
 abbrev pub own_map : HandoverMap
@@ -52,7 +50,7 @@ reach_in device = reach_of (room_of device.store.layout)
 -- handover stands for a state of the handover machine, over this memory
 pub record IsMachine (state : MachineState) : Type 0 where
   pub sizes : HasSizes (reach_in state.device) state.memory
-  pub laid : IsLaid state.memory.region
+  pub laid : (blocks : List (List ℕ)) × (left : ℕ) × IsLaidOut blocks left state.memory.region
   pub map : state.handover.map ≡ own_map
   pub stands : Stands state.handover state.memory.shared
 

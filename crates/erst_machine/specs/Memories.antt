@@ -2,10 +2,8 @@
 use Rattle.std.specs.Prelude.{◌≡◌, ℕ, ◌≤◌, List, [], ◌∷◌, length}
 pub use Rattle.base_model.specs.Bytes.{zeros}
 use Rattle.apei_tables.specs.declared.registers.Place.TheVariants.{Memory}
-use Rattle.apei_space.specs.declared.windows.Window.{Window}
 use Rattle.apei_space.specs.RamState.{RamState}
-use Rattle.ghes_block.specs.Region.{IsLaidOut}
-use Rattle.erst_machine.specs.Areas.{handover_at, scratch_len, handover_len, region_len, ports_len}
+use Rattle.erst_machine.specs.Areas.{base_of, scratch_len, handover_len, region_len, size_of}
 use Rattle.erst_machine.specs.declared.areas.Area.{Area}
 use Rattle.erst_machine.specs.declared.areas.Area.TheVariants.{Device, Scratch, LogRange, Handover, BootErrors, Ports}
 use Rattle.erst_machine.specs.declared.contents.Contents.{Contents}
@@ -57,27 +55,19 @@ IsWritable LogRange = Unit {0}
 IsWritable Ports = Unit {0}
 IsWritable area = ⊥
 
--- the one window of the handover's memory
-abbrev pub shared_windows : List Window
-shared_windows = (record { place = Memory handover_at; len = handover_len }) ∷ []
+-- the handover's memory before its first start, with its one window
+abbrev pub blank : RamState
+blank = record { windows = (record { place = Memory (base_of Handover); len = handover_len }) ∷ []; bytes = zeros handover_len; waited = 0 }
 
 -- each area is as long as the map says, and the log range ends before the device
 pub record HasSizes (reach : ℕ) (memory : MemoryState) : Type 0 where
   pub small : reach ≤ 65536
   pub range : length memory.range ≡ reach
   pub scratch : length memory.scratch ≡ scratch_len
-  pub ports : length memory.ports ≡ ports_len
+  pub ports : length memory.ports ≡ size_of reach Ports
   pub region : length memory.region ≡ region_len
-  pub shared : memory.shared.windows ≡ shared_windows
-
--- the boot error region holds whole blocks and then zeros
-abbrev pub IsLaid : List ℕ → Type 0
-IsLaid region = (blocks : List (List ℕ)) × (left : ℕ) × IsLaidOut blocks left region
-
--- the handover's memory before its first start
-abbrev pub blank : RamState
-blank = record { windows = shared_windows; bytes = zeros handover_len; waited = 0 }
+  pub shared : memory.shared.windows ≡ blank.windows
 
 -- the memory of a machine that has power from now on, but for what the handover's two sides wrote
 abbrev pub cleared : ℕ → RamState → MemoryState
-cleared reach shared = record { range = zeros reach; scratch = zeros scratch_len; ports = zeros ports_len; region = zeros region_len; shared = shared }
+cleared reach shared = record { range = zeros reach; scratch = zeros scratch_len; ports = zeros (size_of reach Ports); region = zeros region_len; shared = shared }

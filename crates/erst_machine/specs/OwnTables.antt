@@ -1,9 +1,6 @@
 -- The machine's own tables (ACPI 6.4, sections 18.5.1, 18.3.2 and 18.3.1).
 use Rattle.std.specs.Prelude.{ℕ, ◌+◌, ◌-◌, ◌*◌, ◌^◌, List, [], ◌∷◌, ◌++◌, length, codes, Some, replicate}
 use Rattle.base_model.specs.Bytes.{spelled}
-use Rattle.apei_tables.specs.declared.registers.Register.{Register}
-use Rattle.apei_tables.specs.declared.registers.Place.TheVariants.{Memory}
-use Rattle.apei_tables.specs.declared.widths.Width.TheVariants.{B32, B64}
 use Rattle.apei_tables.specs.declared.structure.Gas.{Gas}
 use Rattle.apei_tables.specs.declared.headers.Header.{Header}
 use Rattle.apei_tables.specs.Layout.{spelling as header_spelling}
@@ -13,7 +10,6 @@ use Rattle.erst_entries.specs.declared.entries.Entry.{Entry}
 use Rattle.erst_entries.specs.Actions.{code_of, plain_entry}
 use Rattle.erst_entries.specs.Layout.{Erst}
 use Rattle.hest_sources.specs.declared.sources.Ghes.{Ghes}
-use Rattle.hest_sources.specs.declared.sources.Ack.{Ack}
 use Rattle.hest_sources.specs.Layout.{ghes_bytes}
 use Rattle.ghes_block.specs.declared.table.Bert.{Bert}
 use Rattle.erst_machine.specs.declared.areas.Area.TheVariants.{Device, Handover, BootErrors}
@@ -36,23 +32,13 @@ own_header signature size checksum = record {
 abbrev pub register_of : ℕ → ℕ → ℕ → Gas
 register_of width access address = record { space = 0; width = width; offset = 0; access = access; address = address }
 
--- ACTION and VALUE
-abbrev pub action_register : Gas
-action_register = register_of 32 3 (base_of Device)
-
+-- VALUE
 abbrev pub value_register : Gas
 value_register = register_of 64 4 (base_of Device + 8)
 
--- and what they are to the space
-abbrev pub action_at : Register
-action_at = record { place = Memory (base_of Device); access = B32; offset = 0 }
-
-abbrev pub value_at : Register
-value_at = record { place = Memory (base_of Device + 8); access = B64; offset = 0 }
-
 -- WRITE_REGISTER_VALUE: the action's code goes to ACTION
 abbrev pub act : Action → Entry
-act action = plain_entry action 0x3 action_register (code_of action) (2 ^ 32 - 1)
+act action = plain_entry action 0x3 (register_of 32 3 (base_of Device)) (code_of action) (2 ^ 32 - 1)
 
 -- WRITE_REGISTER: the given value goes to VALUE
 abbrev pub give : Action → Entry
@@ -89,23 +75,23 @@ own_entries =
     ∷ act BeginDummyWriteOperation
     ∷ tell (GetErrorLogAddressRange ∷ GetErrorLogAddressRangeLength ∷ GetErrorLogAddressRangeAttributes ∷ told_actions)
 
-abbrev pub own_count : ℕ
-own_count = 24 + length (tell told_actions)
-
 abbrev pub own_size : ℕ
-own_size = 48 + 32 * own_count
+own_size = 48 + 32 * (24 + length (tell told_actions))
 
 -- the checksum that makes its bytes add to 0
 abbrev pub own_checksum : ℕ
 own_checksum = 0x83
 
 abbrev pub own_erst : Erst
-own_erst = record { header = own_header (codes "ERST") own_size own_checksum; header_size = 48; reserved = 0; count = own_count; entries = own_entries }
+own_erst = record {
+  header = own_header (codes "ERST") own_size own_checksum;
+  header_size = 48;
+  reserved = 0;
+  count = 24 + length (tell told_actions);
+  entries = own_entries;
+}
 
 -- the one error source: the handover's, with a read acknowledgement, polled every second
-abbrev pub own_ack : Ack
-own_ack = record { register = register_of 64 4 (base_of Handover + 8); preserve = 2 ^ 64 - 2; write = 1 }
-
 abbrev pub own_source : Ghes
 own_source = record {
   id = 1;
@@ -118,7 +104,7 @@ own_source = record {
   status = register_of 64 4 (base_of Handover);
   notify = 0 ∷ 0x1C ∷ 0 ∷ 0 ∷ 0xE8 ∷ 3 ∷ 0 ∷ 0 ∷ replicate 20 0;
   block_len = 4096;
-  ack = Some own_ack;
+  ack = Some (record { register = register_of 64 4 (base_of Handover + 8); preserve = 2 ^ 64 - 2; write = 1 });
 }
 
 -- 132 bytes

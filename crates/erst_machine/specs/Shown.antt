@@ -1,21 +1,18 @@
 -- What power lost at any flash step shows, over whatever happens to a machine.
 use Rattle.std.specs.Prelude.{◌≡◌, ℕ, ◌+◌, ◌≤◌, ◌⊎◌, ◌/◌, ◌%◌, ◌^◌, nat_le, MatchBool, List, [], ◌∷◌, length}
-use Rattle.base_model.specs.Faults.{Rose}
-use Rattle.base_model.specs.Flash.{Told, CrashImage, IsLater, Leaves, image_at}
+use Rattle.base_model.specs.Flash.{Told, CrashImage, IsLater, image_at}
 use Rattle.record_model.specs.Records.{Stored}
 use Rattle.record_store.specs.Store.{DividesAlike, records_of as records_in}
 use Rattle.apei_tables.specs.declared.widths.Width.{Width}
 use Rattle.apei_tables.specs.Access.{bits}
-use Rattle.apei_space.specs.Calls.{Call, Write}
+use Rattle.apei_space.specs.Calls.{Write}
 use Rattle.apei_space.specs.Accesses.{Move}
 use Rattle.erst_entries.specs.Actions.{action_of}
 use Rattle.erst_device.specs.Effects.{made_by_action}
-use Rattle.erst_machine.specs.declared.areas.Area.{Area}
 use Rattle.erst_machine.specs.declared.areas.Area.TheVariants.{Device}
 use Rattle.erst_machine.specs.declared.areas.Location.{Location}
-use Rattle.erst_machine.specs.declared.areas.Location.TheVariants.{Inside, Beyond, Nowhere}
-use Rattle.erst_machine.specs.declared.areas.Register.{Register}
-use Rattle.erst_machine.specs.declared.areas.Register.TheVariants.{Action, Value, NoRegister}
+use Rattle.erst_machine.specs.declared.areas.Location.TheVariants.{Inside}
+use Rattle.erst_machine.specs.declared.areas.Register.TheVariants.{Action}
 use Rattle.erst_machine.specs.Areas.{register_at}
 use Rattle.erst_machine.specs.MachineState.{MachineState, location_of, records_of, told_of}
 use Rattle.erst_machine.specs.Events.{Event, Accessed}
@@ -38,38 +35,15 @@ Shows unfaulted s state (move ∷ rest) shown =
     ((shown ≡ records_of state) ⊎ ((shown ≡ records_of move.left) ⊎ (shown ≡ unfaulted state move.event)))
 
 -- the records as a write of a number leaves them without a fault: only a code in ACTION makes others
-abbrev pub made_at_register : Register → MachineState → ℕ → Stored
-made_at_register Action state code = made_by_action (action_of code) state.device
-made_at_register Value state code = records_of state
-made_at_register NoRegister state code = records_of state
-
-abbrev pub made_in : Area → ℕ → MachineState → Width → ℕ → Stored
-made_in Device start state width code = made_at_register (register_at start width) state code
-made_in area start state width code = records_of state
-
 abbrev pub made_at : Location → MachineState → Width → ℕ → Stored
-made_at (Inside area start) state width code = made_in area start state width code
-made_at (Beyond area address) state width code = records_of state
-made_at (Nowhere address) state width code = records_of state
-
--- as an access leaves them
-abbrev pub made_by_call : MachineState → Call → Stored
-made_by_call state (Write at width value answer) = made_at (location_of state at (bits width / 8)) state width (value % 2 ^ 32)
-made_by_call state call = records_of state
+made_at (Inside Device start) state width code =
+    elim (register_at start width) [ Action ↦ made_by_action (action_of code) state.device | other ↦ records_of state ]
+made_at location state width code = records_of state
 
 -- as whatever happens leaves them: all else keeps the records
 abbrev pub made_by_event : MachineState → Event → Stored
-made_by_event state (Accessed call) = made_by_call state call
+made_by_event state (Accessed (Write at width value answer)) = made_at (location_of state at (bits width / 8)) state width (value % 2 ^ 32)
 made_by_event state event = records_of state
-
--- one move: each image that power lost in it may leave shows the records before it, or as it leaves them without a fault; where no fault
--- was counted they are those. It makes at most one change
-pub record IsOneMove (old : MachineState) (made : Stored) (new : MachineState) : Type 0 where
-  pub leaves : Leaves (told_of old) (told_of new) (λ image. (shown_by old image ≡ records_of old) ⊎ (shown_by old image ≡ made))
-  pub made_is : (Rose old.device.store.flash.faults new.device.store.flash.faults → ⊥) → records_of new ≡ made
-  pub few : new.device.store.flash.steps ≤ old.device.store.flash.steps + 1
-  pub never_falls : old.device.store.flash.faults ≤ new.device.store.flash.faults
-  pub equivalent : DividesAlike old.device.store new.device.store
 
 -- the flash of one state is that of another some changes later, and the store divides it alike
 pub record GoesOn (moves : ℕ) (old new : MachineState) : Type 0 where

@@ -21,9 +21,10 @@ use Rattle.erst_machine.specs.declared.areas.Register.{Register}
 use Rattle.erst_machine.specs.declared.areas.Register.TheVariants.{Action, Value, NoRegister}
 use Rattle.erst_machine.specs.Areas.{register_at}
 use Rattle.erst_machine.specs.Memories.{MemoryState}
-use Rattle.erst_machine.specs.MachineState.{MachineState, location_of, location_at}
+use Rattle.erst_machine.specs.MachineState.{MachineState, location_of}
 use Rattle.erst_machine.specs.Events.{Turns}
-use Rattle.erst_machine.specs.Allowed.{NumberWrite, write_of, RegisterWritten, AreaWritten, NumberWritten, put_in, area_stored, bytes_stored, copied_from, copied_to, copied, Allows}
+use Rattle.erst_machine.specs.Allowed.{NumberWrite, write_of, RegisterWritten, NumberWritten, put_in, bytes_stored, copied_to, copied, Allows}
+use Rattle.apei_tables.specs.declared.registers.Place.TheVariants.{Memory}
 
 -- the handover and its memory are as before
 pub record SameHandover (old new : MachineState) : Type 0 where
@@ -51,7 +52,7 @@ same_register tells Value old new write h = same_by old _ new h.1 (record { hand
 same_register tells NoRegister old new write h = same_itself old new h.1
 
 same_area : (tells : Type 0) (area : Area) (start : ℕ) (old new : MachineState) (write : NumberWrite) →
-    AreaWritten tells area start old write new → SameHandover old new
+    NumberWritten tells (Inside area start) old write new → SameHandover old new
 same_area tells Device start old new write h = same_register tells (register_at start write.width) old new write h
 same_area tells Scratch start old new write h = same_by old _ new h.1 (same_put Scratch start old _)
 same_area tells LogRange start old new write h = same_by old _ new h.1 (same_put LogRange start old _)
@@ -65,7 +66,7 @@ same_written tells (Inside area start) old new write h = same_area tells area st
 same_written tells (Beyond area address) old new write h = same_itself old new h.1
 same_written tells (Nowhere address) old new write h = same_itself old new h.1
 
-same_area_stored : (area : Area) (start : ℕ) (old : MachineState) (at : ℕ) (bytes : List ℕ) → SameHandover old (area_stored area start old at bytes).1
+same_area_stored : (area : Area) (start : ℕ) (old : MachineState) (at : ℕ) (bytes : List ℕ) → SameHandover old (bytes_stored (Inside area start) old at bytes).1
 same_area_stored Device start old at bytes = record { handover = refl; shared = refl }
 same_area_stored Scratch start old at bytes = record { handover = refl; shared = refl }
 same_area_stored LogRange start old at bytes = record { handover = refl; shared = refl }
@@ -86,15 +87,15 @@ same_copied_to (Nowhere address) old bytes = record { handover = refl; shared = 
 same_copied : (first second : Option SpaceFault) (source target : Location) (old : MachineState) (n : ℕ) → SameHandover old (copied first second source target old n).1
 same_copied (Some fault) second source target old n = record { handover = refl; shared = refl }
 same_copied None (Some fault) source target old n = record { handover = refl; shared = refl }
-same_copied None None source target old n = same_copied_to target old (copied_from source old n)
+same_copied None None source target old n = same_copied_to target old _
 
 pub same_handover : (tells : Type 0) (old new : MachineState) (call : Call) → Allows tells old call new → SameHandover old new
 same_handover tells old new (Read at width answer) h = same_itself old new h.1
 same_handover tells old new (Write at width value answer) h = same_written tells (location_of old at (bits width / 8)) old new (write_of (address_of at) width value answer) h
 same_handover tells old new (Wait micros) h = same_by old _ new h (record { handover = refl; shared = refl })
-same_handover tells old new (Copy from to n answer) h = same_by old _ new h.1 (same_copied _ _ (location_at old from n) (location_at old to n) old n)
+same_handover tells old new (Copy from to n answer) h = same_by old _ new h.1 (same_copied _ _ (location_of old (Memory from) n) (location_of old (Memory to) n) old n)
 same_handover tells old new (ReadBytes at before after answer) h = same_itself old new h.2
-same_handover tells old new (WriteBytes at bytes answer) h = same_by old _ new h.1 (same_stored (location_at old at (length bytes)) old at bytes)
+same_handover tells old new (WriteBytes at bytes answer) h = same_by old _ new h.1 (same_stored (location_of old (Memory at) (length bytes)) old at bytes)
 
 -- from here on, what the machine owes as a station
 pub one_turn : (old new : MachineState) (event : Event) (m : HandoverMachine) → Turns Reader old event new → StandsFor old.handover old.memory.shared m

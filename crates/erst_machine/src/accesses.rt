@@ -6,7 +6,7 @@ ghost use Rattle.erst_device.specs.DeviceState.{DeviceState};
 ghost use Rattle.erst_machine.specs.Areas.{size_of, is_plain, IsPlaced};
 ghost use Rattle.erst_machine.specs.Memories.{memory_of, HasSizes};
 ghost use Rattle.erst_machine.specs.MachineState.{state_of, reach_in};
-ghost use Rattle.erst_machine.specs.Allowed.{register_read, area_read, number_read, write_of, RegisterWritten, AreaWritten, NumberWritten, area_bytes, bytes_read, area_stored, bytes_stored, copy_fault, copy_of};
+ghost use Rattle.erst_machine.specs.Allowed.{register_read, number_read, write_of, RegisterWritten, NumberWritten, bytes_read, bytes_stored, copy_fault, copy_of};
 
 use crate::areas::{Area, Location, Register, register_at};
 use crate::contents::Contents;
@@ -43,7 +43,7 @@ fn read_area<F: Flash>(
 ) -> Result<u64, SpaceFault>
     requires { (reach : ℕ) × HasSizes reach (memory_of contents.now) × (start + bits width / 8 ≤ size_of reach area) }
     ensures value { (handover : HandoverState) (waited : ℕ)
-        → result ≡ area_read area start (state_of device.now contents.now handover waited) at width }
+        → result ≡ number_read (Location.Inside area start) (state_of device.now contents.now handover waited) at width }
     ensures small { IfOk result (λ value. value < 2 ^ bits width) }
 {
     match area {
@@ -112,7 +112,7 @@ fn write_area<F: Flash>(
     requires sizes { HasSizes (reach_in device.old) (memory_of contents.old) }
     requires placed { start + bits width / 8 ≤ size_of (reach_in device.old) area }
     ensures { (handover : HandoverState) (waited : ℕ)
-        → AreaWritten F.tells area start (state_of device.old contents.old handover waited)
+        → NumberWritten F.tells (Location.Inside area start) (state_of device.old contents.old handover waited)
         (write_of at width value result) (state_of device.new contents.new handover waited) }
 {
     match area {
@@ -166,7 +166,7 @@ fn read_area_bytes(
 ) -> Result<(), SpaceFault>
     requires { (reach : ℕ) × HasSizes reach (memory_of contents.now) × (start + length out.old ≤ size_of reach area) }
     ensures { (device : DeviceState) (handover : HandoverState) (waited : ℕ)
-        → let outcome = area_bytes area start (state_of device contents.now handover waited) at out.old
+        → let outcome = bytes_read (Location.Inside area start) (state_of device contents.now handover waited) at out.old
         in (result ≡ outcome.0) × (out.new ≡ outcome.1) }
 {
     match area {
@@ -210,7 +210,7 @@ fn write_area_bytes(
 ) -> Result<(), SpaceFault>
     requires { (reach : ℕ) × HasSizes reach (memory_of contents.old) × (start + length bytes.now ≤ size_of reach area) }
     ensures { (device : DeviceState) (handover : HandoverState) (waited : ℕ)
-        → let outcome = area_stored area start (state_of device contents.old handover waited) at bytes.now
+        → let outcome = bytes_stored (Location.Inside area start) (state_of device contents.old handover waited) at bytes.now
         in (result ≡ outcome.0) × (state_of device contents.new handover waited ≡ outcome.1) }
 {
     match area {

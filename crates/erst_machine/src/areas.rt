@@ -1,6 +1,6 @@
 // The machine's memory map, and where an access of it stands.
 ghost use Rattle.std.specs.Prelude.{◌≡◌, ◌+◌, ◌<◌, ◌≤◌, ◌^◌, IfSome, unwrap_or};
-ghost use Rattle.erst_machine.specs.Areas.{base_of, size_of, area_location, memory_location, port_location, place_location, IsPlaced, is_plain, register_at};
+ghost use Rattle.erst_machine.specs.Areas.{base_of, size_of, area_location, place_location, IsPlaced, is_plain, register_at};
 
 use apei_tables::{Place, Width};
 use erst_device::LOG_RANGE;
@@ -151,7 +151,7 @@ impl Area {
 pub fn memory_location(reach: usize, at: u64, n: usize) -> Location
     requires reach { reach ≤ 65536 }
     requires n { n < 2 ^ 63 }
-    ensures value { result ≡ memory_location reach at n }
+    ensures value { result ≡ place_location reach (Place.Memory at) n }
     ensures placed { IsPlaced reach n result }
 {
     if n == 0 {
@@ -174,7 +174,7 @@ pub fn memory_location(reach: usize, at: u64, n: usize) -> Location
 pub fn port_location(reach: usize, at: u64, n: usize) -> Location
     requires reach { reach < 2 ^ 32 }
     requires n { n < 2 ^ 63 }
-    ensures value { result ≡ port_location reach at n }
+    ensures value { result ≡ place_location reach (Place.Io at) n }
     ensures placed { IsPlaced reach n result }
 {
     Area::Ports.location_alone(reach, at, n)

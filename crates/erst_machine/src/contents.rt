@@ -34,7 +34,7 @@ const SHARED: [Window; 1] = [Window {
 }];
 
 impl Contents {
-    ghost use Rattle.erst_machine.specs.Memories.{memory_of, bytes_in, with_bytes, IsReadable, IsWritable, HasSizes, shared_windows, cleared, blank};
+    ghost use Rattle.erst_machine.specs.Memories.{memory_of, bytes_in, with_bytes, IsReadable, IsWritable, HasSizes, cleared, blank};
 
     /// Zeros, and a log range of so many.
     pub fn new(alloc: Global, reach: usize) -> Result<Contents, OutOfMemory>
@@ -187,7 +187,7 @@ impl Contents {
     }
 
     fn shared_number(shared: &Ram, start: usize, width: Width) -> u64
-        requires windows { shared.now.windows ≡ shared_windows }
+        requires windows { shared.now.windows ≡ blank.windows }
         requires within { start + bits width / 8 ≤ HANDOVER_LEN }
         ensures value { result ≡ number_at shared.now.bytes start (bits width / 8) }
         ensures small { result < 2 ^ bits width }
@@ -197,7 +197,7 @@ impl Contents {
     }
 
     fn shared_part(shared: &Ram, start: usize, out: &mut [u8])
-        requires windows { shared.now.windows ≡ shared_windows }
+        requires windows { shared.now.windows ≡ blank.windows }
         requires within { start + length out.old ≤ HANDOVER_LEN }
         ensures { out.new ≡ part shared.now.bytes start (length out.old) }
     {

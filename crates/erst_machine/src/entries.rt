@@ -2,7 +2,9 @@
 ghost use Rattle.std.specs.Prelude.{◌≡◌, ℕ, Some};
 ghost use Rattle.erst_entries.specs.Instructions.{instruction_of};
 ghost use Rattle.erst_entries.specs.Actions.{plain_entry};
-ghost use Rattle.erst_machine.specs.OwnTables.{register_of, action_register, value_register, act, give, is_one, answer, tell, told_actions, own_entries};
+ghost use Rattle.erst_machine.specs.declared.areas.Area.TheVariants.{Device};
+ghost use Rattle.erst_machine.specs.Areas.{base_of};
+ghost use Rattle.erst_machine.specs.OwnTables.{register_of, value_register, act, give, is_one, answer, tell, told_actions, own_entries};
 
 use crate::areas::{ACTION, VALUE};
 use apei_tables::Gas;
@@ -22,7 +24,7 @@ pub fn register_of(width: u8, access: u8, address: u64) -> Gas
 }
 
 fn action_register() -> Gas
-    ensures { result ≡ action_register }
+    ensures { result ≡ register_of 32 3 (base_of Device) }
 {
     register_of(32, 3, ACTION)
 }

@@ -9,8 +9,8 @@ ghost use Rattle.apei_space.specs.Calls.{Call};
 ghost use Rattle.apei_space.specs.Accesses.{Reaches, Move, Trail};
 ghost use Rattle.erst_machine.specs.MachineState.{MachineState, IsMachine};
 ghost use Rattle.erst_machine.specs.Allowed.{Allows};
-ghost use Rattle.erst_machine.specs.Events.{Event, Happens};
-ghost use Rattle.erst_machine.specs.Shown.{IsShown, made_by_call, made_by_event};
+ghost use Rattle.erst_machine.specs.Events.{Event, Happens, Accessed};
+ghost use Rattle.erst_machine.specs.Shown.{IsShown, made_by_event};
 
 use flash_model::Flash;
 
@@ -30,10 +30,10 @@ pub fn an_area_has_its_bytes()
 /// that had ended by then, or as the next one leaves them. Each makes at most one change of the flash.
 pub fn any_accesses_are_shown<F: Flash>()
     ensures trail { F.tells → (first last : MachineState) (trail : List (Move Call MachineState))
-        → Trail (Allows F.tells) first trail last → IsShown made_by_call first trail last }
+        → Trail (Allows F.tells) first trail last → IsShown (λ state call. made_by_event state (Accessed call)) first trail last }
     ensures reached { F.tells → (first last : MachineState) → Reaches (Allows F.tells) first last
         → (trail : List (Move Call MachineState)) × Trail (Allows F.tells) first trail last
-        × IsShown made_by_call first trail last }
+        × IsShown (λ state call. made_by_event state (Accessed call)) first trail last }
 {}
 
 /// The same of accesses, restarts, calls of the handover and fatal blocks, in any order.

@@ -18,7 +18,6 @@ ghost use Rattle.hest_sources.specs.Tables.{IsHest};
 ghost use Rattle.ghes_block.specs.Table.{IsBert};
 ghost use Rattle.ghes_block.specs.Region.{IsLaidOut, next_from};
 ghost use Rattle.erst_machine.specs.Areas.{place_location, IsPlaced};
-ghost use Rattle.erst_machine.specs.Memories.{IsLaid};
 ghost use Rattle.erst_machine.specs.MachineState.{MachineState, IsMachine, reach_in, location_of};
 ghost use Rattle.erst_machine.specs.OwnTables.{own_size, own_erst, own_source, own_hest, own_bert, own_bert_bytes};
 ghost use Rattle.erst_machine.specs.Shown.{changes_of};
@@ -54,7 +53,6 @@ pub struct Machine<F: Flash> {
 }
 
 impl<F: Flash> Model for Machine<F> {
-    ghost use Rattle.erst_machine.specs.Memories.{IsLaid};
     ghost use Rattle.erst_machine.specs.MachineState.{MachineState, IsMachine, state_of};
 
     ghost Value = { MachineState };
@@ -309,14 +307,14 @@ const LONGEST_FATAL: usize = 4096;
 /// Puts a block that is one, alone, behind the last one of a region.
 fn lay_block(region: &mut [u8], block: &[u8]) -> Result<u32, FatalError>
     requires small { length region.old < 2 ^ 32 }
-    requires laid { IsLaid region.old }
+    requires laid { (blocks : List (List ℕ)) × (left : ℕ) × IsLaidOut blocks left region.old }
     ensures exact { (blocks : List (List ℕ)) (left : ℕ) → IsLaidOut blocks left region.old
         → MatchResult result (λ _. fatal_refusal left block.now ≡ None)
         (λ error. fatal_refusal left block.now ≡ Some error) }
     ensures laid { IfOk result (λ at. (blocks : List (List ℕ)) (left : ℕ) → IsLaidOut blocks left region.old
         → (at ≡ length (joined blocks)) × IsLaidOut (blocks ++ block.now ∷ []) (left - length block.now) region.new) }
     ensures kept { OnErr result (region.new ≡ region.old) }
-    ensures stays { IsLaid region.new }
+    ensures stays { (blocks : List (List ℕ)) × (left : ℕ) × IsLaidOut blocks left region.new }
 {
     let len = block.len();
     if len > LONGEST_FATAL {

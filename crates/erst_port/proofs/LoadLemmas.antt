@@ -7,7 +7,7 @@ use Rattle.base_model.proofs.CrashLemmas.{image_at-now, Leaves-exit}
 use Rattle.flash_model.specs.declared.geometry.Geometry.{Geometry}
 use Rattle.flash_model.specs.Layouts.{layout_of}
 use Rattle.record_model.specs.Records.{second_copies}
-use Rattle.record_store.specs.Store.{StoreView, Pending, Idle, IsReady, IsSettled, records_of, stored, doubt_after, abandoned}
+use Rattle.record_store.specs.Store.{StoreView, Pending, Idle, IsReady, IsSettled, records_of, stored, abandoned}
 use Rattle.record_store.specs.Answers.{copies_in}
 use Rattle.erst_port.specs.States.{first_state}
 use Rattle.erst_entries.specs.Layout.{spelling}
@@ -24,6 +24,7 @@ use Rattle.erst_port.specs.Openings.{OpenedAs, OpenedOn}
 use Rattle.erst_port.specs.Saved.{IsSaved}
 use Rattle.erst_port.specs.Loaded.{addresses_in, Resumes, GoesOn, AnswersAsSaved, LoadedBy, RefusesResume, RefusesLoad}
 use Rattle.erst_port.proofs.SavedLemmas.{HasNumbers, has_numbers, range_behind, same_operation, same_status, same_layout}
+use Rattle.record_store.proofs.Words.{doubt_after}
 
 -- the same registers
 same_device : (new old : DeviceState) → new.value ≡ old.value → new.operation ≡ old.operation → new.offset ≡ old.offset → new.id ≡ old.id → new.status ≡ old.status

@@ -4,7 +4,7 @@ use Rattle.std.proofs.lemmas.Option.{none-some}
 use Rattle.base_model.specs.Faults.{Rose}
 use Rattle.record_model.specs.Records.{Stored, is_reserved}
 use Rattle.record_model.specs.RecordMap.{IsNextAbove}
-use Rattle.record_store.specs.Store.{StoreView, Pending, Idle, stored, doubt_after, IsReady, abandoned, KeepsOrMakes, DividesAlike}
+use Rattle.record_store.specs.Store.{StoreView, Pending, Idle, stored, IsReady, abandoned, KeepsOrMakes, DividesAlike}
 use Rattle.record_store.specs.Answers.{AnswersByItself}
 use Rattle.record_store.specs.declared.errors.StoreError.{StoreError}
 use Rattle.erst_entries.specs.declared.actions.Action.{Action}
@@ -13,9 +13,11 @@ use Rattle.base_model.specs.Flash.{LosesOnlyByChange}
 use Rattle.erst_device.specs.declared.status.CommandStatus.TheVariants.{HardwareNotAvailable}
 use Rattle.erst_device.specs.StoreCalls.{FoundNext}
 use Rattle.erst_device.specs.DeviceState.{DeviceState, records, IsRunning, given_up}
-use Rattle.erst_device.specs.Actions.{told_by, begun_by, waits, found, IsAllowed, Acts, Begins, Ends, SetsOffset, SetsId, Waits, Executes, NoneRuns, Steps, Shows, Tells, FindsNext, Counts, Ignores}
+use Rattle.erst_device.specs.Actions.{told_by, begun_by, waits, found, Acts, Begins, Ends, SetsOffset, SetsId, Waits, Executes, NoneRuns, Steps, Shows, Tells, FindsNext, Counts, Ignores}
 use Rattle.erst_device.specs.Effects.{made_by_action, changes_of_action, Effect}
 use Rattle.erst_port.specs.Rounds.{GoesRound, Above, First, NoRecord}
+use Rattle.record_store.proofs.Words.{doubt_after}
+use Rattle.erst_device.proofs.Words.{IsAllowed}
 
 -- a look for the next identifier
 pub record Looked (old : DeviceState) (range : List ℕ) (new : DeviceState) (after : List ℕ) : Type 0 where
@@ -160,7 +162,7 @@ second_by left new store (Ok None) ready first look allowed new_is =
     }
 second_by left new store (Err error) ready first look allowed new_is =
     let same : abandoned left.store ≡ left.store = given_up_ready left.store ready in
-    absurd (subst (λ (e : StoreError). AnswersByItself {T = Option ℕ} (given_up left).store store (Err e)) look.error (look.still (ap (λ (s : StoreView). s.in_doubt) same ∙ ready.certain)))
+    absurd (subst (λ (e : StoreError). AnswersByItself {T = Option ℕ} (store ≡ (given_up left).store) (given_up left).store store (Err e)) look.error (look.still (ap (λ (s : StoreView). s.in_doubt) same ∙ ready.certain)))
 
 pub second : (left : DeviceState) (range : List ℕ) (new : DeviceState) (after : List ℕ) → Looked left range new after → IsReady left.store → left.cursor ≡ 0 → IsSecond left new
 second left range new after looks ready first = second_by left new looks.store looks.result ready first looks.look looks.allowed looks.new_is

@@ -1,7 +1,7 @@
 -- What power lost in a command leaves: the store is the same on the machines beside.
 use Rattle.std.proofs.Common.{◌≡◌, ◌∙◌, ℕ, List, Result, sym, ap, subst}
-use Rattle.record_model.specs.RecordMap.{Command}
-use Rattle.record_store.specs.Store.{StoreView, IsBeforeOrAfter, KeepsMap, abandoned}
+use Rattle.record_model.specs.RecordMap.{Command, after}
+use Rattle.record_store.specs.Store.{StoreView, KeepsMap, abandoned, KeepsOrMakes, stored}
 use Rattle.erst_client.specs.declared.errors.ClientError.{ClientError}
 use Rattle.erst_client.specs.declared.requests.Request.{Request}
 use Rattle.erst_client.specs.Sequences.{dummy_requests}
@@ -11,8 +11,8 @@ use Rattle.erst_commands.specs.Reads.{ReadMade, IsRead, IsRefused as read_refuse
 use Rattle.erst_shadow.specs.ShadowCommands.{ShadowChange, ShadowDummy, ShadowRead}
 
 own_change_crash : (first last : MachineState) (id : ℕ) (command : Command) (requests : List Request) (budget : ℕ) (result : Result (Unit {0}) ClientError) (left : ℕ) → ChangeCommand first last id command requests budget result left
-    → IsBeforeOrAfter first.device.store last.device.store command
-own_change_crash first last id command requests budget result left change = elim change as (λ result left change. IsBeforeOrAfter first.device.store last.device.store command) [
+    → KeepsOrMakes first.device.store last.device.store (after first.device.store.layout command (stored first.device.store))
+own_change_crash first last id command requests budget result left change = elim change as (λ result left change. KeepsOrMakes first.device.store last.device.store (after first.device.store.layout command (stored first.device.store))) [
   | IsTaken pauses left taken now made spent ↦ made.leaves.crash
   | IsRefused refusal error left refused is now made spent ↦ made.leaves.crash
   | IsFailed pauses left usable rose either leaves few spent ↦ leaves.crash
@@ -20,12 +20,12 @@ own_change_crash first last id command requests budget result left change = elim
 ]
 
 pub change_crash : (pieces : ℕ) (first last : MachineState) (id : ℕ) (command : Command) (requests : List Request) (budget : ℕ) (result : Result (Unit {0}) ClientError) (left : ℕ)
-    → ShadowChange pieces first last id command requests budget result left → IsBeforeOrAfter first.device.store last.device.store command
+    → ShadowChange pieces first last id command requests budget result left → KeepsOrMakes first.device.store last.device.store (after first.device.store.layout command (stored first.device.store))
 change_crash pieces first last id command requests budget result left change =
     let own = own_change_crash change.own_first change.own_last id command requests change.own_budget result change.own_left change.own in
     let from = ap (λ (m : MachineState). m.device.store) change.first_is in
     let to = ap (λ (m : MachineState). m.device.store) change.last_is in
-    subst (λ (s : StoreView). IsBeforeOrAfter first.device.store s command) (sym to) (subst (λ (s : StoreView). IsBeforeOrAfter s change.own_last.device.store command) from own)
+    subst (λ (s : StoreView). KeepsOrMakes first.device.store s (after first.device.store.layout command (stored first.device.store))) (sym to) (subst (λ (s : StoreView). KeepsOrMakes s change.own_last.device.store (after s.layout command (stored s))) from own)
 
 read_made_crash : (first last : MachineState) (id : ℕ) (result : Result (Unit {0}) ClientError) → ReadMade first last id result → KeepsMap first.device.store last.device.store
 read_made_crash first last id result made = elim made as (λ result made. KeepsMap first.device.store last.device.store) [

@@ -13,13 +13,13 @@ use Rattle.erst_shadow.proofs.PlainLemmas.{part-beside, number-put, number-besid
 use Rattle.erst_machine.specs.declared.areas.Area.TheVariants.{Scratch, LogRange}
 use Rattle.erst_machine.specs.declared.areas.Location.{Location}
 use Rattle.erst_machine.specs.declared.areas.Location.TheVariants.{Inside}
-use Rattle.erst_machine.specs.Areas.{memory_location}
-use Rattle.erst_machine.specs.MachineState.{MachineState, location_at}
+use Rattle.erst_machine.specs.MachineState.{MachineState, location_of}
 use Rattle.erst_machine.specs.Allowed.{Allows, number_read, write_of, NumberWritten, copy_of}
 use Rattle.erst_machine.proofs.PlaceLemmas.{area_found}
 use Rattle.erst_device.specs.Actions.{log_range_at}
 use Rattle.erst_shadow.specs.ShadowTables.{scratch_at}
 use Rattle.erst_shadow.specs.ShadowMoves.{holding, HoldsPieces, KeepsOthers, MovedIn, MovedOut}
+use Rattle.erst_machine.specs.Areas.{place_location}
 
 -- bytes that were changed twice within the same place
 SameOutside-then : (at n : ℕ) (old mid new : List ℕ) → SameOutside at n old mid → SameOutside at n mid new → SameOutside at n old new
@@ -36,7 +36,7 @@ place_in Source = 0xF88
 place_in Target = 0xF90
 place_in Length = 0xF98
 
-register_location : (reach : ℕ) (r : MoveRegister) → memory_location reach (address_of r) 8 ≡ Inside Scratch (place_in r)
+register_location : (reach : ℕ) (r : MoveRegister) → place_location reach (Memory (address_of r)) 8 ≡ Inside Scratch (place_in r)
 register_location reach Offset = refl
 register_location reach Source = refl
 register_location reach Target = refl
@@ -109,11 +109,11 @@ pub record KeepsRange (first w : MachineState) : Type 0 where
   pub kept : w.memory.range ≡ first.memory.range
 
 -- a copy between two places that are found
-copied_by : (tells : Type 0) (w v : MachineState) (from target n : ℕ) (source sink : Location) (answer : Result (Unit {0}) SpaceFault) → location_at w from n ≡ source → location_at w target n ≡ sink
+copied_by : (tells : Type 0) (w v : MachineState) (from target n : ℕ) (source sink : Location) (answer : Result (Unit {0}) SpaceFault) → location_of w (Memory from) n ≡ source → location_of w (Memory target) n ≡ sink
     → Allows tells w (Copy from target n answer) v → (answer ≡ (copy_of source sink w from target n).0) × (v ≡ (copy_of source sink w from target n).1)
 copied_by tells w v from target n source sink answer source_is sink_is h =
-    let outcome : copy_of (location_at w from n) (location_at w target n) w from target n ≡ copy_of source sink w from target n =
-    ap (λ (s : Location). copy_of s (location_at w target n) w from target n) source_is ∙ ap (λ (s : Location). copy_of source s w from target n) sink_is in
+    let outcome : copy_of (location_of w (Memory from) n) (location_of w (Memory target) n) w from target n ≡ copy_of source sink w from target n =
+    ap (λ (s : Location). copy_of s (location_of w (Memory target) n) w from target n) source_is ∙ ap (λ (s : Location). copy_of source s w from target n) sink_is in
     (h.0 ∙ ap (λ (o : Result (Unit {0}) SpaceFault × MachineState). o.0) outcome, h.1 ∙ ap (λ (o : Result (Unit {0}) SpaceFault × MachineState). o.1) outcome)
 
 -- what a move needs of the machine, whichever way it goes, by what is asked of its pieces
@@ -152,10 +152,10 @@ module _ (tells : Type 0) (first : MachineState) (count : ℕ) (room : HoldsPiec
   pub below_out : AreAddressable log_range_at scratch_at count
   below_out = let few = room.few in record { source = omega arith; target_is = omega arith; some = room.some }
 
-  scratch_location : (w : MachineState) (i : ℕ) → KeepsOthers first w → i < count → location_at w (scratch_at + 128 * i) 128 ≡ Inside Scratch (128 * i)
+  scratch_location : (w : MachineState) (i : ℕ) → KeepsOthers first w → i < count → location_of w (Memory (scratch_at + 128 * i)) 128 ≡ Inside Scratch (128 * i)
   scratch_location w i comes less = area_found (length w.memory.range) Scratch (128 * i) 128 (omega (arith, comes.range, room.small)) (omega arith) (omega (arith, room.few))
 
-  range_location : (w : MachineState) (i : ℕ) → KeepsOthers first w → i < count → location_at w (log_range_at + 128 * i) 128 ≡ Inside LogRange (128 * i)
+  range_location : (w : MachineState) (i : ℕ) → KeepsOthers first w → i < count → location_of w (Memory (log_range_at + 128 * i)) 128 ≡ Inside LogRange (128 * i)
   range_location w i comes less = area_found (length w.memory.range) LogRange (128 * i) 128 (omega (arith, comes.range, room.small)) (omega arith) (omega (arith, comes.range, room.range))
 
   scratch_room : (w : MachineState) → KeepsOthers first w → 128 * count ≤ length w.memory.scratch

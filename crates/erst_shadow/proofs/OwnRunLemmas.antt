@@ -21,8 +21,9 @@ use Rattle.erst_client.specs.Requests.{Performs}
 use Rattle.erst_client.specs.Steps.{steps_of}
 use Rattle.erst_machine.specs.MachineState.{MachineState}
 use Rattle.erst_machine.specs.Allowed.{Allows, ActsOn}
-use Rattle.erst_machine.specs.OwnTables.{action_at, value_at, own_entries, act, give, is_one, answer}
+use Rattle.erst_machine.specs.OwnTables.{own_entries, act, give, is_one, answer}
 use Rattle.erst_commands.specs.OwnPrograms.{with_value, takes_value, tells_value, answer_of, OwnRun, IsMade, StopsAtOnce, StopsBefore, StopsBehind}
+use Rattle.erst_machine.proofs.Words.{action_at, value_at}
 
 low_all : (n : ℕ) → stored n 0 (2 ^ 64 - 1) ≡ n % 2 ^ 64
 low_all n = ap (λ (x : ℕ). x * 2 ^ 0 % 2 ^ 64) (and_mask n 64) ∙ (omega arith)

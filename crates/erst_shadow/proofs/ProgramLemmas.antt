@@ -21,7 +21,7 @@ use Rattle.erst_client.specs.Requests.{Performs}
 use Rattle.erst_client.specs.Commands.{Counts, Names}
 use Rattle.erst_machine.specs.MachineState.{MachineState}
 use Rattle.erst_machine.specs.Allowed.{Allows}
-use Rattle.erst_machine.specs.OwnTables.{action_at, value_at, own_entries, act, answer}
+use Rattle.erst_machine.specs.OwnTables.{own_entries, act, answer}
 use Rattle.erst_shadow.specs.MoveEntries.{move_entries}
 use Rattle.erst_shadow.specs.MoveSpaces.{after_rounds}
 use Rattle.erst_shadow.specs.MoveRuns.{move_then, MovesOn, StopsWithin}
@@ -34,6 +34,7 @@ use Rattle.erst_device.specs.Actions.{log_range_at}
 use Rattle.erst_shadow.specs.ShadowTables.{scratch_at, shadow_entries}
 use Rattle.erst_shadow.specs.ShadowMoves.{HoldsPieces, KeepsOthers, MovesThenExecutes, ExecutesMoved, StopsMovingIn, MovesThenTells, TellsMoved, StopsMovingOut}
 use Rattle.erst_shadow.proofs.MoveLemmas.{below_in, below_out, space_in, moved_in, moved_out, first_comes, KeepsRange, space_out}
+use Rattle.erst_machine.proofs.Words.{action_at, value_at}
 
 -- The device's registers refuse nothing
 

@@ -1,7 +1,7 @@
 -- What is proved of this table alone: of all runs from one state of the machine.
 use Rattle.std.specs.Prelude.{◌≡◌, ℕ, ◌+◌, ◌≤◌, ◌<◌, ◌^◌, List, Option, Result, Ok}
-use Rattle.record_model.specs.RecordMap.{Command, Clear}
-use Rattle.record_store.specs.Store.{IsBeforeOrAfter, KeepsMap, abandoned}
+use Rattle.record_model.specs.RecordMap.{Command, Clear, after}
+use Rattle.record_store.specs.Store.{KeepsMap, abandoned, KeepsOrMakes, stored}
 use Rattle.erst_client.specs.declared.errors.AttachError.{AttachError}
 use Rattle.erst_client.specs.declared.requests.Request.{Request}
 use Rattle.erst_client.specs.Commands.{ClientState}
@@ -55,7 +55,7 @@ ClientReadsByPieces tells first =
 abbrev pub EachChangeLeavesOneOfTwo : MachineState → Type 0
 EachChangeLeavesOneOfTwo first =
     (pieces id : ℕ) (command : Command) (requests : List Request) (run : CallFrom first (Unit {0})) → ChangesAsOwn pieces id command requests run
-    → IsBeforeOrAfter first.device.store run.last.device.store command
+    → KeepsOrMakes first.device.store run.last.device.store (after first.device.store.layout command (stored first.device.store))
 
 abbrev pub EachReadLeavesTheRecords : MachineState → Type 0
 EachReadLeavesTheRecords first =

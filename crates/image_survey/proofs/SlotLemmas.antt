@@ -3,7 +3,7 @@ use Rattle.std.proofs.Common.{◌≡◌, ℕ, zero, suc, ◌+◌, ◌-◌, ◌<�
 use Rattle.std.specs.Prelude.{◌==◌, ◌&&◌, ◌||◌, nat_lt}
 use Rattle.std.specs.List.{list_any}
 use Rattle.std.proofs.lemmas.Bool.{cases_eq, both_ways, false_from_ne_true, lt-ltb, cond-true, cond-false}
-use Rattle.record_model.specs.Records.{Head, Slot, Entry, is_upright, is_up, are_parts, further_of, is_live, entry_of, record_of, goes_before, is_behind, is_first, leads, holds, is_taken, parts_of}
+use Rattle.record_model.specs.Records.{Head, Slot, Entry, is_upright, is_up, are_parts, further_of, is_live, entry_of, record_of, goes_before, is_behind, is_first, holds, is_taken, parts_of}
 use Rattle.record_model.proofs.LiveLemmas.{live_parts, entry_live, entry_dead, live_entry}
 use Rattle.record_model.proofs.FirstLemmas.{is_first-chosen}
 use Rattle.record_slots.specs.Listed.{first_records}
@@ -11,6 +11,7 @@ use Rattle.record_slots.specs.Slots.{numbers_of}
 use Rattle.record_slots.specs.declared.found.Look.{Look}
 use Rattle.record_slots.specs.Looks.{IsSeen}
 use Rattle.record_slots.proofs.LookLemmas.{seen_up}
+use Rattle.record_model.proofs.Words.{leads}
 
 three_tests : (p q r : Bool) → p ≡ true → q ≡ true → (p && q && r) ≡ r
 three_tests p q r h i = ap (λ (b : Bool). b && q && r) h ∙ ap (λ (b : Bool). b && r) i

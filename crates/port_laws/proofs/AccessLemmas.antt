@@ -13,7 +13,6 @@ use Rattle.erst_device.specs.DeviceState.{DeviceState}
 use Rattle.erst_machine.specs.declared.areas.Area.TheVariants.{LogRange as InRange}
 use Rattle.erst_machine.specs.declared.areas.Location.{Location as MachineLocation}
 use Rattle.erst_machine.specs.declared.areas.Location.TheVariants.{Inside}
-use Rattle.erst_machine.specs.Areas.{memory_location}
 use Rattle.erst_machine.specs.Allowed.{Allows, ActsOn, bytes_read as machine_read, bytes_stored as machine_stored}
 use Rattle.erst_port.specs.declared.errors.PortError.{PortError}
 use Rattle.erst_port.specs.declared.windows.Addresses.{Addresses}
@@ -26,6 +25,7 @@ use Rattle.erst_port.specs.Accesses.{Tells, Address, Round, Number, Acted, Actio
 use Rattle.port_laws.specs.PortSpaces.{SpaceState, place_in, as_told, read_at, WrittenAt, bytes_read_at, bytes_stored_at, caught_up, Goes}
 use Rattle.port_laws.specs.Machines.{machine_of}
 use Rattle.port_laws.proofs.PlaceLemmas.{place-register, place-range, range-bytes}
+use Rattle.erst_machine.specs.Areas.{place_location}
 
 -- a code that the port took
 pub record Takes (addresses : Addresses) (old : SpaceState) (code : ℕ) (new : SpaceState) : Type 0 where
@@ -139,7 +139,7 @@ module _ (addresses : Addresses) (old new : SpaceState) where
   -- bytes of the log range, from byte k of it on
   module _ (at machine_at k : ℕ) (is : at ≡ addresses.range + k) where
     pub bytes_written : (bytes : List ℕ) (answer : Result (Unit {0}) SpaceFault) → 0 < length bytes → k + length bytes ≤ length old.port.range
-        → memory_location (length old.port.range) machine_at (length bytes) ≡ Inside InRange k → Goes addresses old (WriteBytes at bytes answer) new
+        → place_location (length old.port.range) (Memory machine_at) (length bytes) ≡ Inside InRange k → Goes addresses old (WriteBytes at bytes answer) new
         → (answer ≡ Ok tt) × Allows (Unit {0}) (machine_of old) (WriteBytes machine_at bytes answer) (machine_of new) × (length new.port.range ≡ length old.port.range)
     bytes_written bytes answer some fits location goes =
         let place = in_range addresses old goes.there at k goes.before.apart is (omega (arith, some, fits)) in
@@ -158,7 +158,7 @@ module _ (addresses : Addresses) (old new : SpaceState) where
         )
 
     pub bytes_told : (before after : List ℕ) (answer : Result (Unit {0}) SpaceFault) → 0 < length before → k + length before ≤ length old.port.range
-        → memory_location (length old.port.range) machine_at (length before) ≡ Inside InRange k → Goes addresses old (ReadBytes at before after answer) new
+        → place_location (length old.port.range) (Memory machine_at) (length before) ≡ Inside InRange k → Goes addresses old (ReadBytes at before after answer) new
         → (answer ≡ Ok tt) × Allows (Unit {0}) (machine_of old) (ReadBytes machine_at before after answer) (machine_of new)
     bytes_told before after answer some fits location goes =
         let place = in_range addresses old goes.there at k goes.before.apart is (omega (arith, some, fits)) in

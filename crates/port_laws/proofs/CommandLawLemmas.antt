@@ -11,7 +11,6 @@ use Rattle.erst_device.specs.Actions.{log_range_at}
 use Rattle.erst_device.specs.DeviceState.{records}
 use Rattle.erst_machine.specs.declared.areas.Area.TheVariants.{LogRange}
 use Rattle.erst_machine.specs.declared.areas.Location.TheVariants.{Inside}
-use Rattle.erst_machine.specs.Areas.{memory_location}
 use Rattle.erst_machine.specs.MachineState.{MachineState, records_of}
 use Rattle.erst_machine.proofs.PlaceLemmas.{area_found}
 use Rattle.erst_commands.specs.Causes.{HasItsCause, GoesThrough}
@@ -45,6 +44,7 @@ use Rattle.port_laws.proofs.AccessLemmas.{action_written, bytes_told, bytes_writ
 use Rattle.port_laws.proofs.MachineLemmas.{is_machine}
 use Rattle.port_laws.proofs.RoundLemmas.{next_round}
 use Rattle.port_laws.proofs.CommandLemmas.{own_runs, sequence_own, write_carried, read_carried, clear_carried, dummy_carried, counts_own, writes_own, reads_own}
+use Rattle.erst_machine.specs.Areas.{place_location}
 
 -- Accesses
 
@@ -53,7 +53,7 @@ module _ (addresses : Addresses) (old : SpaceState) where
       → IsTheMachines addresses old (write_call (Memory addresses.registers) B32 number answer) (write_call (Memory 0x200000) B32 number answer)
   code_written number answer not_address not_next new goes = action_written addresses old new number (number % 2 ^ 32) answer refl not_address not_next goes
 
-  range_location : IsPort old.port → (k n : ℕ) → 0 < n → k + n ≤ length old.port.range → memory_location (length old.port.range) (log_range_at + k) n ≡ Inside LogRange k
+  range_location : IsPort old.port → (k n : ℕ) → 0 < n → k + n ≤ length old.port.range → place_location (length old.port.range) (Memory (log_range_at + k)) n ≡ Inside LogRange k
   range_location port k n some fits = area_found (length old.port.range) LogRange k n (omega (arith, port.range, reach-few old.port.device.store.layout)) some fits
 
   pub range_read : (k : ℕ) (before after : List ℕ) (answer : Result (Unit {0}) SpaceFault) → 0 < length before → k + length before ≤ length old.port.range

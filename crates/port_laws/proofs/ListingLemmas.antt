@@ -59,8 +59,8 @@ end_of from (id ∷ ids) = end_of id ids
 
 is_stored : (stored : Stored) (from id : ℕ) → Behind stored from id → IsSome (get stored id)
 is_stored stored from id next = elim next as (λ id next. IsSome (get stored id)) [
-  | Above id least ↦ least.here
-  | First id none least ↦ least.here
+  | Above id least ↦ least.1
+  | First id none least ↦ least.1
 ]
 
 all_stored : (stored : Stored) (from : ℕ) (ids : List ℕ) → Walks stored from ids → (id : ℕ) → Contains ids id → IsSome (get stored id)
@@ -77,7 +77,7 @@ up_to a b less = grind arith
 above_of : (stored : Stored) (from id : ℕ) → from < id → Behind stored from id → IsNextAbove from stored (Some id)
 above_of stored from id up next = (elim next as (λ id next. from < id → IsNextAbove from stored (Some id)) [
   | Above id least ↦ λ up. least
-  | First id none least ↦ λ up. absurd (nothing (get stored id) least.here (none id up))
+  | First id none least ↦ λ up. absurd (nothing (get stored id) least.1 (none id up))
 ]) up
 
 -- while they rise, none is left out
@@ -85,7 +85,7 @@ all_risen : (stored : Stored) (from : ℕ) (ids : List ℕ) → Walks stored fro
 all_risen stored from [] walks rising none id above some = absurd (nothing (get stored id) some (none id above))
 all_risen stored from (next ∷ ids) walks rising none id above some =
     let least = above_of stored from next rising.0 walks.0 in
-    elim (up_to next id (least.least id above some)) [
+    elim (up_to next id (least.2 id above some)) [
       | inl is ↦ at_head next id ids is
       | inr less ↦ in_tail next id ids (all_risen stored next ids walks.1 rising.1 none id less some)
     ]
@@ -101,8 +101,8 @@ module _ (stored : Stored) (other : ℕ) (some : 0 < other) (here : IsSome (get 
   step_past : (from id last : ℕ) → Behind stored from id → (id ≡ other → ⊥) → IsPast id last → IsPast from last
   step_past from id last next not past = (elim next as (λ id next. (id ≡ other → ⊥) → IsPast id last → IsPast from last) [
     | Above id least ↦ λ not past.
-        let up = least.above in (
-          λ below. let at = less_of id other (least.least other below here) not in let rest = past.0 at in (omega (arith, up, rest.0), rest.1),
+        let up = least.0 in (
+          λ below. let at = less_of id other (least.2 other below here) not in let rest = past.0 at in (omega (arith, up, rest.0), rest.1),
           λ above. elim (past.1 (omega (arith, up, above))) [
             | inl rises ↦ inl (omega (arith, up, rises.0), rises.1)
             | inr falls ↦ inr falls
@@ -110,7 +110,7 @@ module _ (stored : Stored) (other : ℕ) (some : 0 < other) (here : IsSome (get 
         )
     | First id none least ↦ λ not past. (
       λ below. absurd (nothing (get stored other) here (none other below)),
-      λ above. let at = less_of id other (least.least other some here) not in inr (past.0 at).1,
+      λ above. let at = less_of id other (least.2 other some here) not in inr (past.0 at).1,
     )
   ]) not past
 
@@ -133,9 +133,9 @@ module _ (stored : Stored) (other : ℕ) (some : 0 < other) (here : IsSome (get 
       by_step : (id last : ℕ) → Behind stored from id → (id ≡ other → ⊥) → IsPast id last → last ≡ from → ⊥
       by_step id last next not past back = (elim next as (λ id next. (id ≡ other → ⊥) → IsPast id last → ⊥) [
         | Above id least ↦ λ not past.
-            let up = least.above in
+            let up = least.0 in
             elim sides [
-              | inl below ↦ let rest = past.0 (less_of id other (least.least other below here) not) in absurd (omega (arith, up, rest.0, back))
+              | inl below ↦ let rest = past.0 (less_of id other (least.2 other below here) not) in absurd (omega (arith, up, rest.0, back))
               | inr above ↦ elim (past.1 (omega (arith, up, above))) [
                 | inl rises ↦ absurd (omega (arith, up, rises.0, back))
                 | inr falls ↦ absurd (omega (arith, falls, above, back))
@@ -143,7 +143,7 @@ module _ (stored : Stored) (other : ℕ) (some : 0 < other) (here : IsSome (get 
             ]
         | First id none least ↦ λ not past. elim sides [
           | inl below ↦ nothing (get stored other) here (none other below)
-          | inr above ↦ let rest = past.0 (less_of id other (least.least other some here) not) in absurd (omega (arith, rest.1, above, back))
+          | inr above ↦ let rest = past.0 (less_of id other (least.2 other some here) not) in absurd (omega (arith, rest.1, above, back))
         ]
       ]) not past
 
@@ -235,7 +235,7 @@ record IsLast (first : MachineState) (result : Result (Option ℕ) ClientError) 
 
 last_by : (first last : MachineState) (result : Result (Option ℕ) ClientError) → IsNotGreater first.device.cursor result → NextRound first last result → IsLast first result
 last_by first last result not round = (elim round as (λ result round. IsNotGreater first.device.cursor result → IsLast first result) [
-  | IsAbove found asked least cursor ↦ λ less. let above = least.above in absurd (omega (arith, less, above))
+  | IsAbove found asked least cursor ↦ λ less. let above = least.0 in absurd (omega (arith, less, above))
   | IsFirst found asked none least cursor ↦ λ less. record { none = none; anew = IsLeast found least }
   | IsNone asked none empty cursor ↦ λ less. record { none = none; anew = IsEmpty empty }
   | IsNotFound failed ↦ λ less. absurd less

@@ -12,7 +12,7 @@ use Rattle.erst_entries.specs.Actions.{code_of}
 use Rattle.erst_entries.specs.Programs.{entries_of}
 use Rattle.erst_interp.specs.Configurations.{next}
 use Rattle.erst_machine.specs.Allowed.{Allows}
-use Rattle.erst_machine.specs.OwnTables.{own_entries, act, give, is_one, answer, action_register, value_register}
+use Rattle.erst_machine.specs.OwnTables.{own_entries, act, give, is_one, answer, value_register}
 use Rattle.erst_port.specs.declared.windows.Addresses.{Addresses}
 use Rattle.erst_port.specs.PortTables.{port_entries, carries_out, gives, asks_for_one, takes}
 use Rattle.port_laws.specs.PortSpaces.{Goes}
@@ -20,6 +20,7 @@ use Rattle.port_laws.specs.Machines.{machine_of, IsShared}
 use Rattle.port_laws.proofs.CarryLemmas.{IsCarried, AreCarried, NoEntry, OneEntry, run_carried, ReadsCarried, WritesCarried, take_step, take_halts, store_step, store_halts}
 use Rattle.port_laws.proofs.SequenceLemmas.{IsPerformed, ArePerformed}
 use Rattle.port_laws.proofs.AccessLemmas.{value_read, value_read_served, value_written, value_write_served, action_written, action_served, wait_made}
+use Rattle.erst_machine.proofs.Words.{action_register}
 
 not_address : (action : Action) → IsShared action → code_of action ≡ 0xD → ⊥
 not_address GetRecordIdentifier is e = is

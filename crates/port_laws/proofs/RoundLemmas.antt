@@ -17,7 +17,7 @@ use Rattle.erst_client.specs.declared.errors.ClientError.TheVariants.{Hardware}
 use Rattle.erst_client.specs.Commands.{Names, named}
 use Rattle.erst_device.specs.StoreCalls.{FoundNext}
 use Rattle.erst_device.specs.DeviceState.{DeviceState, given_up, records}
-use Rattle.erst_device.specs.Actions.{IsAllowed, found}
+use Rattle.erst_device.specs.Actions.{found}
 use Rattle.erst_machine.specs.MachineState.{MachineState, records_of}
 use Rattle.erst_commands.specs.Looks.{HasAsked, AsksOnce, Answers, StopsBehind as stops_behind, StopsAtOnce as stops_at_once}
 use Rattle.erst_commands.proofs.LookLemmas.{has_asked, has_failed}
@@ -30,6 +30,7 @@ use Rattle.port_laws.specs.Machines.{machine_of}
 use Rattle.port_laws.specs.Looks.{NextRound, IsAbove, IsFirst, IsNone, IsNotFound}
 use Rattle.port_laws.proofs.AccessLemmas.{Takes}
 use Rattle.port_laws.proofs.TellLemmas.{ToldRun, IsTold, StopsAtOnce, StopsBehind, told_run}
+use Rattle.erst_device.proofs.Words.{IsAllowed}
 
 -- What a client makes of VALUE
 

@@ -6,9 +6,10 @@ use Rattle.std.specs.FinMap.{get, insert, len, len-empty, len-insert}
 use Rattle.std.specs.Cmp.{nat_cmp_total}
 use Rattle.std.proofs.lemmas.Bool.{cases_eq, cases_lt, cases_Bool, eq-eqb, ne_eqb, eqb-true, lt-ltb, ltb-true, le-ltb, and_parts, and_from, or_cases, both_ways, false_from_ne_true, not-true}
 use Rattle.std.proofs.lemmas.Option.{none-some, same_Some}
-use Rattle.record_model.specs.Records.{Entry, Stored, is_newer, with_entry, selected, IsChosen, goes_before, is_behind, is_first, leads, one_if, count_below}
+use Rattle.record_model.specs.Records.{Entry, Stored, with_entry, selected, IsChosen, goes_before, is_behind, is_first, one_if, count_below}
 use Rattle.record_model.proofs.ChosenLemmas.{IsChosen-free, IsChosen-stays, IsChosen-newest, IsChosen-unique, IsChosen-below, IsChosen-without, chosen_or_none, get-chosen, get-no_slot}
 use Rattle.record_model.proofs.CountLemmas.{count_below-same, count_below-or, count_below-one}
+use Rattle.record_model.proofs.Words.{is_newer, leads}
 
 -- all that pass but one
 pub count_below-less : (test other : ℕ → Bool) (n j : ℕ) → j < n → test j ≡ true → other j ≡ false → ((k : ℕ) → k < n → k ≢ j → other k ≡ test k)

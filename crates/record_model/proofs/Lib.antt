@@ -1,3 +1,4 @@
+pub mod Words
 pub mod SelectionLemmas
 pub mod ChosenLemmas
 pub mod SizeLemmas

@@ -7,13 +7,14 @@ use Rattle.std.proofs.lemmas.Bool.{cases_eq, cases_Bool, eq-eqb, eqb-true, or_pa
 use Rattle.base_model.specs.Bytes.{SameOutside, number_at}
 use Rattle.base_model.proofs.BytesLemmas.{SameOutside-wider}
 use Rattle.base_model.specs.Layout.{Layout}
-use Rattle.record_model.specs.Records.{Slot, slot_at, Entry, entry_at, stored_in, is_taken, OnlyFirstUp, NearlyOnlyFirstUp, HasPart, HaveParts, AreDistinct, DiffersInFreeSlot, gate_open, tail_mark}
+use Rattle.record_model.specs.Records.{Slot, slot_at, Entry, entry_at, stored_in, is_taken, OnlyFirstUp, NearlyOnlyFirstUp, HasPart, HaveParts, AreDistinct, gate_open, tail_mark}
 use Rattle.record_model.specs.Filling.{Step, IsFilled}
 use Rattle.record_model.specs.Plan.{Plan, IsPlan, Fill, Gate, target_of, further_done, slots_ahead, PartsStand, KnowsPlan, StandsAtStage}
 use Rattle.record_model.proofs.LiveLemmas.{others_kept, gate_map, gate_replaces, gate_adds}
 use Rattle.record_model.proofs.SlotLemmas.{slot_at-other, differs_entries, differs_only, differs_stored, down_by_gate}
 use Rattle.record_model.proofs.GateLemmas.{whole_record}
 use Rattle.record_model.proofs.BegunLemmas.{HasPart-filled, StandsFirst-opened}
+use Rattle.record_model.proofs.Words.{DiffersInFreeSlot}
 
 -- parts in slots of which none is slot j, as slot j changes
 have_parts-other : (room k id generation : ℕ) (further body : List ℕ) (old new : ℕ → Slot) (j number : ℕ) (xs : List ℕ) → ((n : ℕ) → n ≢ j → new n ≡ old n)

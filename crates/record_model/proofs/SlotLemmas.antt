@@ -7,8 +7,9 @@ use Rattle.std.proofs.lemmas.Bool.{cases_eq, cases_order, eqb-true, and_parts, b
 use Rattle.base_model.specs.Bytes.{part, little, number_at, SameOutside}
 use Rattle.base_model.proofs.BytesLemmas.{part-before, part-after, number_at-before, number_at-after, part-part, part-append, SameOutside-wider}
 use Rattle.base_model.specs.Flash.{IsErased}
-use Rattle.record_model.specs.Records.{Head, Slot, head_at, tail_at, is_upright, slot_at, is_up, Entry, entry_at, selected, stored_in, is_taken, OnlyFirstUp, DiffersInFreeSlot, gate_open, tail_mark, not_killed}
+use Rattle.record_model.specs.Records.{Head, Slot, head_at, tail_at, is_upright, slot_at, is_up, Entry, entry_at, selected, stored_in, is_taken, OnlyFirstUp, gate_open, tail_mark, not_killed}
 use Rattle.record_model.proofs.LiveLemmas.{law_entries, law_only, IsKilled}
+use Rattle.record_model.proofs.Words.{DiffersInFreeSlot}
 
 -- a slot ends before a later one begins
 pub slots_apart : (k j size : ℕ) → k < j → k * size + size ≤ j * size

@@ -10,13 +10,14 @@ use Rattle.base_model.proofs.BytesLemmas.{SameOutside-wider}
 use Rattle.base_model.specs.Flash.{IsErased}
 use Rattle.base_model.specs.Layout.{Layout, reach_of}
 use Rattle.record_model.specs.Records.{slot_at, head_fields, head_bytes, tail_at, is_up, entry_of, entry_at, is_taken, OnlyFirstUp, part_len, named, AreBelow, gate_further, gate_open, tail_mark, not_killed}
-use Rattle.record_model.specs.Filling.{Target, first_target, StaysDown, IsCleanFromHead, IsCleanFromTail, IsBegun, IsFilled, Step, EraseFromHead, EraseFromTail, PutHead, Piece, TailMark, StandsAt, IsStep, place_of, len_of, IsWritten}
+use Rattle.record_model.specs.Filling.{Target, first_target, IsCleanFromHead, IsCleanFromTail, IsBegun, IsFilled, Step, EraseFromHead, EraseFromTail, PutHead, Piece, TailMark, StandsAt, IsStep, place_of, len_of, IsWritten}
 use Rattle.record_model.specs.Plan.{Plan, IsPlan, Stage, Fill, target_of, slots_ahead, PartsStand, KnowsPlan, StandsAtStage, first_step, after_part, stage_after}
 use Rattle.record_model.proofs.LiveLemmas.{only_live, entry_live, free_none}
 use Rattle.record_model.proofs.FillLemmas.{reach, StaysDown-from_head, StaysDown-from_tail, IsCleanFromHead-more, IsCleanFromTail-more}
 use Rattle.record_model.proofs.BegunLemmas.{IsBegun-first, IsBegun-further, IsBegun-more, IsFilled-tail, StaysDown-erased, StaysDown-begun, StaysDown-mark, length-bytes, length-first, part_len-le}
 use Rattle.record_model.proofs.PlanLemmas.{any_append, target_in, StaysKnown, stays_known, next_part}
 use Rattle.record_model.proofs.MarkLemmas.{open_is_not_further, open_is_not_erased}
+use Rattle.record_model.proofs.Words.{StaysDown}
 
 -- a free slot is not upright
 pub free_down : (size slots j : ℕ) (image : List ℕ) → OnlyFirstUp size slots image → j < slots → is_taken (entry_at size slots image) slots j ≡ false → is_up (size - 64) slots (slot_at size image j) ≡ false

@@ -1,14 +1,16 @@
 -- Upright slots that are not the first slot of their identifier's record.
-use Rattle.std.specs.Prelude.{◌≡◌, ◌≢◌, ℕ, zero, suc, ◌-◌, ◌*◌, ◌<◌, Bool, true, false, ◌==◌, ◌&&◌, ◌||◌, not, nat_lt, List, Option, Some, None}
-use Rattle.base_model.specs.Bytes.{SameOutside}
+use Rattle.std.specs.Prelude.{◌≡◌, ◌≢◌, ℕ, zero, suc, ◌-◌, ◌<◌, Bool, true, false, ◌==◌, ◌&&◌, ◌||◌, not, nat_lt, List, Option, Some, None}
 use Rattle.record_model.specs.Slots.{Slot, slot_at, is_up}
 use Rattle.record_model.specs.Entries.{Entry, entry_of, entry_at}
 use Rattle.record_model.specs.Selection.{IsChosen}
 use Rattle.record_model.specs.Free.{count_below}
 
 -- only first slots of records are upright: each upright slot has the record of its identifier
-pub record HasOnlyFirst (room slots : ℕ) (slot : ℕ → Slot) : Type 0 where
-  pub each : (k : ℕ) → k < slots → is_up room slots (slot k) ≡ true → (e : Entry) × IsChosen (entry_of room slots slot) slots k e
+abbrev pub OnlyFirstUp : ℕ → ℕ → List ℕ → Type 0
+OnlyFirstUp slot_size slots image =
+    let slot = slot_at slot_size image in
+    let room = slot_size - 64 in
+    (k : ℕ) → k < slots → is_up room slots (slot k) ≡ true → (e : Entry) × IsChosen (entry_of room slots slot) slots k e
 
 -- the same but for a spare slot: at most one is a second copy, or a record that is not whole
 pub record HasNearlyOnlyFirst (room slots : ℕ) (slot : ℕ → Slot) : Type 0 where
@@ -16,9 +18,6 @@ pub record HasNearlyOnlyFirst (room slots : ℕ) (slot : ℕ → Slot) : Type 0 
   pub each : (k : ℕ) → k < slots → k ≢ spare → is_up room slots (slot k) ≡ true → (e : Entry) × IsChosen (entry_of room slots slot) slots k e
 
 -- the same of an image
-abbrev pub OnlyFirstUp : ℕ → ℕ → List ℕ → Type 0
-OnlyFirstUp slot_size slots image = HasOnlyFirst (slot_size - 64) slots (slot_at slot_size image)
-
 abbrev pub NearlyOnlyFirstUp : ℕ → ℕ → List ℕ → Type 0
 NearlyOnlyFirstUp slot_size slots image = HasNearlyOnlyFirst (slot_size - 64) slots (slot_at slot_size image)
 
@@ -33,26 +32,11 @@ unfoldable pub is_behind : (ℕ → Option Entry) → ℕ → Entry → ℕ → 
 is_behind entry zero this k = false
 is_behind entry (suc n) this k = goes_before (entry n) n this k || is_behind entry n this k
 
--- the record of slot k, if it has one, is that of its identifier: that of none of the first n slots goes before it
-abbrev pub leads : (ℕ → Option Entry) → ℕ → Option Entry → ℕ → Bool
-leads entry n None k = false
-leads entry n (Some this) k = not (is_behind entry n this k)
-
--- whether slot k is the first slot of its identifier's record, of the first n slots
+-- whether slot k is the first slot of its identifier's record: that of none of the first n slots goes before its own
 unfoldable pub is_first : (ℕ → Option Entry) → ℕ → ℕ → Bool
-is_first entry n k = leads entry n (entry k) k
+is_first entry n k = elim (entry k) [ None ↦ false | Some this ↦ not (is_behind entry n this k) ]
 
 -- how many upright slots are not the first slot of their identifier's record
 unfoldable pub second_copies : ℕ → ℕ → List ℕ → ℕ
 second_copies slot_size slots image =
     count_below (λ k. is_up (slot_size - 64) slots (slot_at slot_size image k) && not (is_first (entry_at slot_size slots image) slots k)) slots
-
--- the image differs from the first one only in slot j, which is not upright
-pub record DiffersInFreeSlot (slot_size slots j : ℕ) (first image : List ℕ) : Type 0 where
-  pub same : SameOutside (j * slot_size) slot_size first image
-  pub down : is_up (slot_size - 64) slots (slot_at slot_size image j) ≡ false
-
--- no two of the first n slots have one identifier
-abbrev pub AreSingle : (ℕ → Option Entry) → ℕ → Type 0
-AreSingle entry n =
-    (j k : ℕ) (one other : Entry) → j < n → k < n → entry j ≡ Some one → entry k ≡ Some other → one.id ≡ other.id → j ≡ k

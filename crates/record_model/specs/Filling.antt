@@ -1,14 +1,9 @@
 -- What stands in a slot while a part of a record is written into it.
-use Rattle.std.specs.Prelude.{◌≡◌, ◌≢◌, ℕ, zero, suc, ◌+◌, ◌-◌, ◌*◌, ◌<◌, min, false, List, [], ◌∷◌, length, take, drop}
-use Rattle.base_model.specs.Bytes.{SameOutside, part}
+use Rattle.std.specs.Prelude.{◌≡◌, ◌≢◌, ℕ, zero, suc, ◌+◌, ◌-◌, ◌*◌, ◌<◌, min, List, [], ◌∷◌, length, take, drop}
+use Rattle.base_model.specs.Bytes.{part}
 use Rattle.base_model.specs.Flash.{IsErased}
 use Rattle.base_model.specs.Layout.{Layout}
-use Rattle.record_model.specs.Records.{Head, head_at, head_fields, head_bytes, tail_at, slot_at, is_up, part_len, named, gate_further, tail_mark, gate_closed, not_killed}
-
--- whatever stands in the range, the slot is not upright
-abbrev pub StaysDown : ℕ → ℕ → ℕ → ℕ → ℕ → List ℕ → Type 0
-StaysDown place len size slots slot image =
-    (other : List ℕ) → SameOutside place len image other → is_up (size - 64) slots (slot_at size other slot) ≡ false
+use Rattle.record_model.specs.Records.{Head, head_at, head_fields, head_bytes, tail_at, part_len, named, gate_further, tail_mark, gate_closed, not_killed}
 
 -- a slot that is to be filled: the head that it gets, and the bytes of its part
 pub record Target : Type 0 where

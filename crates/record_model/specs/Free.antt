@@ -1,5 +1,5 @@
 -- The free slots: those that are no slot of any record.
-use Rattle.std.specs.Prelude.{ℕ, zero, suc, ◌+◌, Bool, true, false, ◌==◌, ◌||◌, not, Option, Some, None}
+use Rattle.std.specs.Prelude.{ℕ, zero, suc, ◌+◌, Bool, true, false, ◌==◌, ◌||◌, Option, Some, None}
 use Rattle.std.specs.List.{list_any}
 use Rattle.record_model.specs.Entries.{Entry}
 
@@ -21,17 +21,3 @@ one_if false = 0
 unfoldable pub count_below : (ℕ → Bool) → ℕ → ℕ
 count_below test zero = 0
 count_below test (suc n) = one_if (test n) + count_below test n
-
--- how many of the n slots are free
-unfoldable pub free_among : (ℕ → Option Entry) → ℕ → ℕ
-free_among entry n = count_below (λ j. not (is_taken entry n j)) n
-
--- one for a slot that is no record's first
-abbrev pub one_if_none : Option Entry → ℕ
-one_if_none None = 1
-one_if_none (Some entry) = 0
-
--- how many of the first n slots are no record's first
-unfoldable pub empty_among : (ℕ → Option Entry) → ℕ → ℕ
-empty_among entry zero = 0
-empty_among entry (suc n) = one_if_none (entry n) + empty_among entry n

@@ -62,16 +62,11 @@ made_by Next stored = stored
 unfoldable pub after : Layout → Command → Stored → Stored
 after layout command stored = if is_none (refusal_of layout command stored) then made_by command stored else stored
 
--- an identifier is the least stored one above a cursor
-pub record IsLeast (cursor : ℕ) (stored : Stored) (id : ℕ) : Type 0 where
-  pub above : cursor < id
-  pub here : IsSome (get stored id)
-  pub least : (other : ℕ) → cursor < other → IsSome (get stored other) → id ≤ other
-
 -- the least stored identifier above a cursor; none where none is above it
 abbrev pub IsNextAbove : ℕ → Stored → Option ℕ → Type 0
 IsNextAbove cursor stored None = (id : ℕ) → cursor < id → get stored id ≡ None
-IsNextAbove cursor stored (Some id) = IsLeast cursor stored id
+IsNextAbove cursor stored (Some id) =
+    (cursor < id) × IsSome (get stored id) × ((other : ℕ) → cursor < other → IsSome (get stored other) → id ≤ other)
 
 -- the flash changes that so many bytes take, one for each 256 bytes or part of them
 abbrev pub pieces_of : ℕ → ℕ

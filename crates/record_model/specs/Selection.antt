@@ -1,5 +1,5 @@
 -- The records that slots hold: of several with one identifier that of greatest generation, the lower slot at a tie.
-use Rattle.std.specs.Prelude.{◌≡◌, ℕ, zero, suc, ◌<◌, ◌≤◌, Bool, true, nat_lt, if◌then◌else◌, List, length, Option, Some, None}
+use Rattle.std.specs.Prelude.{◌≡◌, ℕ, zero, suc, ◌<◌, ◌≤◌, true, nat_lt, if◌then◌else◌, List, length, Option, Some, None}
 use Rattle.std.specs.List.{sum_by}
 use Rattle.std.specs.Ordering.{nat_cmp}
 use Rattle.std.specs.FinMap.{FinMap, empty, get, insert, values}
@@ -10,15 +10,13 @@ use Rattle.record_model.specs.Entries.{Entry, entry_at}
 abbrev pub Stored : Type 0
 Stored = FinMap nat_cmp (List ℕ × ℕ)
 
--- whether an entry takes the place of what its identifier has: where that is nothing, or of a lesser generation
-abbrev pub is_newer : Entry → Option (List ℕ × ℕ) → Bool
-is_newer entry None = true
-is_newer entry (Some kept) = nat_lt kept.1 entry.generation
-
+-- an entry takes the place of what its identifier has, where that is nothing, or of a lesser generation
 abbrev pub with_entry : Option Entry → Stored → Stored
 with_entry None stored = stored
 with_entry (Some entry) stored =
-    if is_newer entry (get stored entry.id) then insert stored entry.id (entry.body, entry.generation) else stored
+    if elim (get stored entry.id) [ None ↦ true | Some kept ↦ nat_lt kept.1 entry.generation ]
+    then insert stored entry.id (entry.body, entry.generation)
+    else stored
 
 -- of the first n of some slots, the record of each identifier: that of greatest generation, the lower slot at a tie
 unfoldable pub selected : (ℕ → Option Entry) → ℕ → Stored

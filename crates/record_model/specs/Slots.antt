@@ -13,28 +13,22 @@ parts_of room len = (len + (room - 1)) / room
 unfoldable pub part_len : ℕ → ℕ → ℕ → ℕ
 part_len room len number = min room (len - number * room)
 
--- the further slots that the head of a first slot names, and the numbers behind them
+-- the further slots that the head of a first slot names
 unfoldable pub further_of : ℕ → Head → List ℕ
 further_of room head = take (parts_of room head.len - 1) head.next
 
-unfoldable pub unused_of : ℕ → Head → List ℕ
-unused_of room head = drop (parts_of room head.len - 1) head.next
-
--- the forms of a first slot: that of a record which fits one slot, and that of one which names its further slots
-unfoldable pub is_alone : ℕ → Head → Bool
-is_alone room head = head.format == 1 && nat_le head.len room
-
+-- the form of a first slot that names its further slots: the numbers behind theirs are unused
 unfoldable pub is_spread : ℕ → ℕ → Head → Bool
 is_spread room slots head =
     head.format == 2 && nat_le head.len (reach_of room)
-    && list_all (λ n. nat_lt n slots) (further_of room head) && list_all (λ n. n == 0xFFFF) (unused_of room head)
+    && list_all (λ n. nat_lt n slots) (further_of room head) && list_all (λ n. n == 0xFFFF) (drop (parts_of room head.len - 1) head.next)
 
 -- a slot is upright by its own head and tail mark: gate open, not killed, tail mark set, a length and an identifier that a
--- record can have, and one of the two forms
+-- record can have, and one of the two forms: that of a record which fits one slot, or that of one which names its further slots
 unfoldable pub is_upright : ℕ → ℕ → Head → ℕ → Bool
 is_upright room slots head tail =
     head.gate == gate_open && head.kill == not_killed && tail == tail_mark && nat_le 128 head.len && not (is_reserved head.id)
-    && (is_alone room head || is_spread room slots head)
+    && ((head.format == 1 && nat_le head.len room) || is_spread room slots head)
 
 -- what is seen of a slot: its head, its tail mark, and the bytes of its room
 pub record Slot : Type 0 where

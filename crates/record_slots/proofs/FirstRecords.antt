@@ -50,7 +50,7 @@ pub only_chosen : (size slots : ℕ) (image : List ℕ) → OnlyFirstUp size slo
 unfolding entry_at
 only_chosen size slots image only j e h is =
     let up = up_entry (size - 64) slots (slot_at size image) j e is in
-    let chosen = only.each j h up.1 in
+    let chosen = only j h up.1 in
     subst (λ (x : Entry). IsChosen (entry_of (size - 64) slots (slot_at size image)) slots j x) (same_Some chosen.0 e (sym (chosen.1).here ∙ is)) chosen.1
 
 taken_alike : (entry other : ℕ → Option Entry) (n i : ℕ) → ((k : ℕ) → k < n → other k ≡ entry k) → is_taken other n i ≡ is_taken entry n i

@@ -6,7 +6,7 @@ use Rattle.std.proofs.Math.ListN.{get_or-append}
 use Rattle.std.proofs.Math.Seq.{get_or-append_seam}
 use Rattle.flash_model.specs.declared.geometry.Geometry.{Geometry}
 use Rattle.base_model.specs.Layout.{reach_of}
-use Rattle.record_model.specs.Records.{Head, Slot, slot_at, head_at, tail_at, is_reserved, is_upright, is_alone, is_spread, is_up, are_parts, further_of, is_live, entry_at, parts_of, AreBelow}
+use Rattle.record_model.specs.Records.{Head, Slot, slot_at, head_at, tail_at, is_reserved, is_upright, is_spread, is_up, are_parts, further_of, is_live, entry_at, parts_of, AreBelow}
 use Rattle.record_model.proofs.LiveLemmas.{live_parts, from_parts, entry_dead, down_entry}
 use Rattle.record_model.proofs.PartsLemmas.{UpForm, up_form, further_form, parts_of-some, parts_of-few}
 use Rattle.record_slots.specs.Slots.{numbers_of}
@@ -14,6 +14,7 @@ use Rattle.record_slots.specs.declared.found.Look.{Look}
 use Rattle.record_slots.specs.declared.found.SlotOf.{SlotOf}
 use Rattle.record_slots.specs.Listed.{IsWithin}
 use Rattle.record_slots.specs.Looks.{IsSeen, AreSeen}
+use Rattle.record_model.proofs.Words.{is_alone}
 
 pub upright_id : (room slots : ℕ) (head : Head) (tail : ℕ) → is_upright room slots head tail ≡ true → is_reserved head.id ≡ false
 unfolding is_upright
@@ -108,7 +109,6 @@ names_parts geometry head tail up three =
     }
 
 alone_len : (room : ℕ) (head : Head) → is_alone room head ≡ true → head.len ≤ room
-unfolding is_alone
 alone_len room head alone = let both = and_parts _ _ alone in leb-true head.len room both.1
 
 spread_len : (room slots : ℕ) (head : Head) → is_spread room slots head ≡ true → head.len ≤ reach_of room

@@ -8,7 +8,7 @@ use Rattle.base_model.specs.Bytes.{SameOutside, part, little, number_at}
 use Rattle.base_model.proofs.BytesLemmas.{length-part}
 use Rattle.std.proofs.Math.Nat.{mul_comm}
 use Rattle.base_model.specs.Flash.{Told, FlashState, Changed, MayChange, IsErased, next_count}
-use Rattle.record_model.specs.Records.{Slot, head_at, tail_at, slot_at, is_up, Entry, entry_of, entry_at, stored_in, IsChosen, holds, is_taken, HasOnlyFirst, HasNearlyOnlyFirst, OnlyFirstUp, NearlyOnlyFirstUp, parts_of, second_copies, kill_mark}
+use Rattle.record_model.specs.Records.{Slot, head_at, tail_at, slot_at, is_up, Entry, entry_of, entry_at, stored_in, IsChosen, holds, is_taken, HasNearlyOnlyFirst, OnlyFirstUp, NearlyOnlyFirstUp, parts_of, second_copies, kill_mark}
 use Rattle.base_model.proofs.CrashLemmas.{Leaves-none, Leaves-change, Leaves-weaker, Leaves-then, Leaves-exit}
 use Rattle.record_model.proofs.ChosenLemmas.{IsChosen-unique, IsChosen-without}
 use Rattle.record_model.proofs.LiveLemmas.{IsKilled, killed_others, kill_only, down_entry}
@@ -25,6 +25,7 @@ use Rattle.record_slots.proofs.FirstRecords.{only_chosen, first_single, first_li
 use Rattle.record_slots.proofs.FreeLemmas.{list_below-same, list_below-are, list_below-rising}
 use Rattle.record_model.proofs.MarkLemmas.{killed_is_not_erased}
 use Rattle.record_model.proofs.SpareLemmas.{second_copies-none, second_copies-some, second_copies-fewer}
+use Rattle.record_model.proofs.Words.{HasOnlyFirst}
 
 -- what passes in a list stands at an index
 any_at : (test : SlotOf → Bool) (places : List SlotOf) → list_any test places ≡ true → (i : ℕ) × (i < length places) × ((d : SlotOf) → test (get_or places i d) ≡ true)
@@ -74,7 +75,7 @@ kill_crash size slots n old new some within up other change =
     (λ image same. scan_kill size slots n old.image image some within up other same)
 
 only_nearly : (room slots : ℕ) (slot : ℕ → Slot) → HasOnlyFirst room slots slot → HasNearlyOnlyFirst room slots slot
-only_nearly room slots slot only = record { spare = slots; each = λ k h apart up. only.each k h up }
+only_nearly room slots slot only = record { spare = slots; each = λ k h apart up. only k h up }
 
 kill_nearly_image : (size slots n : ℕ) (old image : List ℕ) → 64 ≤ size → n < slots → is_up (size - 64) slots (slot_at size old n) ≡ true
     → ((e : Entry) → IsChosen (entry_at size slots old) slots n e → ⊥) → SameOutside (n * size + 1) 1 old image → NearlyOnlyFirstUp size slots old → NearlyOnlyFirstUp size slots image
@@ -230,9 +231,8 @@ taken_is size slots k image ids places some sized paired only listed =
 -- at the end of the second pass
 pub settled_only : (size slots : ℕ) (old now : FlashState) (found : Found) → length found.places.items ≡ length found.ids.items → IsSettled size slots slots old now found → OnlyFirstUp size slots now.told.image
 unfolding entry_at
-settled_only size slots old now found paired had = record {
-  each = λ k h up. first_chosen (entry_at size slots now.told.image) slots k found.ids.items found.places.items paired had.listed (had.settled k h up);
-}
+settled_only size slots old now found paired had =
+    λ k h up. first_chosen (entry_at size slots now.told.image) slots k found.ids.items found.places.items paired had.listed (had.settled k h up)
 
 pub settled_free : (size slots : ℕ) (old now : FlashState) (found : Found) → 65 ≤ size → length now.told.image ≡ size * slots → length found.places.items ≡ length found.ids.items
     → IsSettled size slots slots old now found

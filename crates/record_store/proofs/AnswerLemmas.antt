@@ -13,10 +13,11 @@ use Rattle.record_slots.specs.declared.found.Found.{Found}
 use Rattle.record_slots.specs.declared.found.SlotOf.{SlotOf}
 use Rattle.record_slots.specs.Listed.{IsPlaceOf, AreListed, IsListed}
 use Rattle.record_slots.proofs.ListedLemmas.{get-listed, get-unlisted}
-use Rattle.record_store.specs.Index.{IsListOf, IsPlaceFound, IsStoredAt}
+use Rattle.record_store.specs.Index.{IsListOf, IsPlaceFound}
 use Rattle.record_store.specs.Store.{StoreView, stored}
 use Rattle.record_store.proofs.CountLemmas.{len_stored}
 use Rattle.record_store.proofs.StoreLemmas.{KnowsMap, of_old}
+use Rattle.record_store.proofs.Words.{IsStoredAt}
 
 -- what a list has stands at an index of it
 contains_at : (xs : List ℕ) (x : ℕ) → Contains xs x → IsListed xs x
@@ -57,15 +58,15 @@ next_stored entry slots cursor found None list next = λ id above.
     let low : get_or found.ids.items listed.0 0 ≤ cursor = next listed.0 listed.1 in
     let is : get_or found.ids.items listed.0 0 ≡ id = listed.2 in
     omega arith)
-next_stored entry slots cursor found (Some id) list next = record {
-  above = next.1;
-  here = listed_stored entry slots id found.ids.items found.places.items list.listed (contains_at found.ids.items id next.0);
-  least = λ other above some.
+next_stored entry slots cursor found (Some id) list next = (
+  next.1,
+  listed_stored entry slots id found.ids.items found.places.items list.listed (contains_at found.ids.items id next.0),
+  λ other above some.
       let listed = stored_listed entry slots other found.ids.items found.places.items list.listed some in
       let is : get_or found.ids.items listed.0 0 ≡ other = listed.2 in
       let least : id ≤ get_or found.ids.items listed.0 0 = next.2 listed.0 listed.1 (omega arith) in
-      omega arith;
-}
+      omega arith,
+)
 
 -- the place that is found is that of the stored record
 pub place_stored : (entry : ℕ → Option Entry) (slots id : ℕ) (place : SlotOf) → IsPlaceOf entry slots id place → (e : Entry) × IsStoredAt entry slots id place e

@@ -21,8 +21,8 @@ use Rattle.record_slots.specs.Listed.{free_slots, first_records}
 use Rattle.record_slots.proofs.FirstRecords.{free_slots-only}
 use Rattle.record_slots.proofs.TakenLemmas.{least_free}
 use Rattle.record_store.specs.Index.{IsListing}
-use Rattle.record_store.specs.Store.{StoreView, Pending, Idle, Writing, records_of, slots_for, IsReady}
-use Rattle.record_store.specs.Answers.{StartsWrite, RefusesWrite, ReadsExactly, HasDoubtAtStart, HasFaultsOf, EndsCopies, copies_of, is_flash}
+use Rattle.record_store.specs.Store.{StoreView, Pending, Idle, Writing, records_of, slots_for, IsReady, IsInDoubt}
+use Rattle.record_store.specs.Answers.{StartsWrite, RefusesWrite, ReadsExactly, HasFaultsOf, EndsCopies, copies_of, is_flash, ByFault}
 use Rattle.record_store.specs.Calls.{OnlyStarts}
 use Rattle.record_store.specs.Kept.{IsStore, IsWrite, IsUnderWay, Knows, KnowsSlots, KnowsDraft, view_of, pending_of, slots_in}
 use Rattle.record_store.specs.Start.{IsPlanned, IsRefusedBy, ReadsTimes, ReadsToPlan, generation_over}
@@ -93,7 +93,7 @@ module _ (tells : Type 0) (geometry : Geometry) (flash : FlashState) (found : Fo
         slots = known;
         plan = record {
           only = known.only;
-          free = λ n any. free.free n (subst (λ (xs : List ℕ). list_any (λ m. n == m) xs ≡ true) takes.taken any);
+          free = λ n any. free.free n (subst (λ (xs : List ℕ). list_any (λ m. n == m) xs ≡ true) takes.1 any);
           newest = λ k e h at_k key.
               let less : e.generation < generation_over replaced = planned_newest geometry found flash.told.image draft.id replaced known here k e h at_k key in
               let same : draft.generation ≡ generation_over replaced = is.generation in
@@ -144,7 +144,7 @@ module _ (tells : Type 0) (geometry : Geometry) (flash : FlashState) (found : Fo
       let takes = planned_takes tells geometry found flash.told.image (length bytes) draft replaced planned begins.of_len begins.least begins.most in
       let entry = entry_at geometry.slot_size geometry.slots flash.told.image in
       let free : slots_in draft ≡ take (parts_of (geometry.slot_size - 64) (length bytes)) (free_slots entry geometry.slots) =
-      takes.taken ∙ ap (λ (n : ℕ). take n found.free.items) (planned.parts ∙ ap (parts_of (geometry.slot_size - 64)) begins.of_len) ∙ ap (take (parts_of (geometry.slot_size - 64) (length bytes))) known.list.free in
+      takes.1 ∙ ap (λ (n : ℕ). take n found.free.items) (planned.parts ∙ ap (parts_of (geometry.slot_size - 64)) begins.of_len) ∙ ap (take (parts_of (geometry.slot_size - 64) (length bytes))) known.list.free in
       let here : slots_in draft ≡ slots_for (view_of geometry new doubt Idle) (length bytes) =
       free ∙ ap (take (parts_of (geometry.slot_size - 64) (length bytes))) (sym (free_slots-only geometry.slot_size geometry.slots flash.told.image known.only))
       ∙ ap (λ (t : Told). take (parts_of (geometry.slot_size - 64) (length bytes)) (free_slots (first_records (entry_at geometry.slot_size geometry.slots t.image) geometry.slots) geometry.slots)) (sym (same told)) in
@@ -185,7 +185,7 @@ same_view geometry flash new doubt pending v is ready same =
 -- a refusal by the lists, which leaves all as it was
 refused_by_lists : (tells : Type 0) (count : Unit {0} → ℕ) (v : StoreView) (id : ℕ) (bytes : List ℕ) (error : StoreError) → IsReady v → (error ≡ Flash → ⊥) → (tells → RefusesWrite v v id bytes error)
     → ReadsExactly {T = Unit {0}} tells count v v (Err error) → ((tells → v.flash.steps ≡ v.flash.steps + copies_of v) → tells → EndsCopies {T = Unit {0}} v v (Err error))
-    → HasDoubtAtStart v (Err error) → HasFaultsOf {T = Unit {0}} v.flash.faults v.flash.faults (Err error) → RefusedStart tells count v v id bytes error
+    → ByFault {T = Unit {0}} (Err error) (IsInDoubt v) (IsReady v) → HasFaultsOf {T = Unit {0}} v.flash.faults v.flash.faults (Err error) → RefusedStart tells count v v id bytes error
 refused_by_lists tells count v id bytes error ready other answer still ended doubt cause =
     let looks = looks_ready {T = Unit {0}} tells v tt ready in
     record {

@@ -7,7 +7,7 @@ use Rattle.std.specs.List.Sorted.{IsStrictlyIncreasing}
 use Rattle.std.proofs.lemmas.List.{length_push}
 use Rattle.std.proofs.lemmas.Bool.{cases_eq, eq-eqb, ne_eqb}
 use Rattle.std.proofs.lemmas.Bool.Decides.{nat_tests}
-use Rattle.record_model.specs.Records.{Entry, Stored, selected, stored_in, entry_at, parts_in, is_taken, free_among, count_below, one_if, empty_among, one_if_none, OnlyFirstUp}
+use Rattle.record_model.specs.Records.{Entry, Stored, selected, stored_in, entry_at, parts_in, is_taken, count_below, one_if, OnlyFirstUp}
 use Rattle.record_model.proofs.PartsLemmas.{free_of_image}
 use Rattle.record_model.proofs.SizeLemmas.{empty_among-len_at_most, len-removed, len_none}
 use Rattle.record_slots.specs.declared.found.Found.{Found}
@@ -16,6 +16,7 @@ use Rattle.record_slots.specs.Listed.{IsListed, AreListed, with_number, list_bel
 use Rattle.record_slots.proofs.ListedLemmas.{get-listed, get-unlisted}
 use Rattle.record_slots.proofs.FreeLemmas.{rising-tail, listed-cons, listed_above}
 use Rattle.record_store.specs.Index.{IsListing, IsListOf}
+use Rattle.record_model.proofs.Words.{free_among, empty_among, one_if_none}
 
 -- what is left of a map without an identifier
 eq_by_cmp-nat : (x y : ℕ) → eq_by_cmp nat_cmp x y ≡ nat_eq x y

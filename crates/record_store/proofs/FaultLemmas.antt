@@ -2,12 +2,12 @@
 use Rattle.std.proofs.Common.{◌≡◌, ℕ, ◌≤◌, Bool, cond, Result, Ok, Err, refl, sym, ap, subst, ◌∙◌, arith, inl, inr}
 use Rattle.base_model.specs.Flash.{FlashState, IsOneChange, AsksChange, LosesOnlyByChange, StaysPowered, next_count}
 use Rattle.base_model.proofs.PowerLemmas.{lit_none, lit_then}
-use Rattle.record_store.specs.Answers.{EndsAtFault, FailsOnce, UnlessFlash}
+use Rattle.record_store.specs.Answers.{EndsAtFault, ByFault}
 use Rattle.record_store.specs.Start.{ReadsTimes}
 use Rattle.record_store.specs.declared.errors.StoreError.{StoreError}
 use Rattle.record_store.specs.declared.errors.StoreError.TheVariants.{NoSpace, LastGeneration, NotFound, Empty, Flash, Small}
 
-unless_weaker : {T : Type 0} (y : Result T StoreError) (P Q : Type 0) → (P → Q) → UnlessFlash y P → UnlessFlash y Q
+unless_weaker : {T : Type 0} (y : Result T StoreError) (P Q : Type 0) → (P → Q) → ByFault y (Unit {0}) P → ByFault y (Unit {0}) Q
 unless_weaker (Ok done) P Q weaker had = weaker had
 unless_weaker (Err (NoSpace free)) P Q weaker had = weaker had
 unless_weaker (Err (LastGeneration id)) P Q weaker had = weaker had
@@ -32,7 +32,7 @@ ends_refused old new x (Small need) other had = record { once = tt; lit = had.li
 -- one call after another
 pub ends_then : {T U : Type 0} (old mid new : FlashState) (x : T) (y : Result U StoreError) → mid.faults ≡ old.faults → EndsAtFault {T = T} old mid (Ok x) → EndsAtFault {T = U} mid new y → EndsAtFault {T = U} old new y
 ends_then {T} {U} old mid new x y same first second = record {
-  once = subst (λ (n : ℕ). FailsOnce {T = U} n new.faults y) same second.once;
+  once = subst (λ (n : ℕ). ByFault {T = U} y (new.faults ≡ next_count n) (Unit {0})) same second.once;
   lit = lit_then old mid new first.same_power first.lit second.lit;
   same_power = unless_weaker y (new.powered ≡ mid.powered) (new.powered ≡ old.powered) (λ more. more ∙ first.same_power) second.same_power;
   later = unless_weaker y (mid.steps ≤ new.steps) (old.steps ≤ new.steps) (λ more. let before = first.later in omega arith) second.later;

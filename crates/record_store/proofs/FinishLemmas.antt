@@ -11,14 +11,15 @@ use Rattle.record_model.specs.Records.{Stored}
 use Rattle.record_model.specs.RecordMap.{Command, Write, Clear, Refusal, Failed, NoSpace as no_space, NotFound as not_found, refusal_of, after, changes_of, made_by}
 use Rattle.record_model.proofs.MapLemmas.{after-done}
 use Rattle.record_model.proofs.RefusalLemmas.{changes_of-refused, changes_of-new, changes_of-over, changes_of-clear}
-use Rattle.record_store.specs.Store.{StoreView, Pending, Idle, Writing, Clearing, stored, records_of, map_after, pending_after, changes_before_gate, changes_in_all, StandsIn, slots_for, PlacedAfter, KeepsOrMakes, KeepsMap, DividesAlike}
-use Rattle.record_store.specs.Answers.{FailsByFlash, AnswersWrite, AnswersClear, RefusesWrite, RefusesClear, UnlessFlash, HasFaultsOf, HasDoubtOf, EndsAtFault, StartsWrite, StartsClear, TakesReads, copies_of}
+use Rattle.record_store.specs.Store.{StoreView, Pending, Idle, Writing, Clearing, stored, records_of, map_after, pending_after, changes_before_gate, changes_in_all, StandsIn, slots_for, PlacedAfter, KeepsOrMakes, KeepsMap, DividesAlike, IsInDoubt, IsReady}
+use Rattle.record_store.specs.Answers.{FailsByFlash, AnswersWrite, AnswersClear, RefusesWrite, RefusesClear, HasFaultsOf, EndsAtFault, StartsWrite, StartsClear, TakesReads, copies_of, ByFault}
 use Rattle.record_store.specs.Calls.{OnlyStarts, Changes}
 use Rattle.record_store.specs.declared.errors.StoreError.{StoreError}
 use Rattle.record_store.specs.declared.errors.StoreError.TheVariants.{NoSpace, LastGeneration, NotFound, Empty, Flash, Small}
-use Rattle.record_store.specs.Finish.{IsUnfinished, changes_left, map_at_end, PlacedAtEnd, PlacesAlike, IsOnWay, IsFinished}
+use Rattle.record_store.specs.Finish.{IsUnfinished, changes_left, map_at_end, PlacedAtEnd, IsFinished}
 use Rattle.record_store.proofs.FaultLemmas.{ends_then, loses_then}
 use Rattle.record_store.proofs.StoreLemmas.{kept_map, equivalent_refl, equivalent_then}
+use Rattle.record_store.proofs.Words.{PlacesAlike, IsOnWay}
 
 -- the tests of a write that has made so many changes, of which so many come before the gate
 record Tests (made before all : ℕ) (at_gate at_end early later : Bool) : Type 0 where
@@ -304,7 +305,7 @@ clear_answers old new id (Err Flash) fails taken made = tt
 clear_answers old new id (Err (Small need)) fails taken made = absurd (cc)
 
 -- the changes of what was made
-unless_flash : (result : Result (Unit {0}) StoreError) (P : Type 0) → FailsByFlash result → OnOk result P → UnlessFlash result P
+unless_flash : (result : Result (Unit {0}) StoreError) (P : Type 0) → FailsByFlash result → OnOk result P → ByFault result (Unit {0}) P
 unless_flash (Ok done) P fails ok = ok
 unless_flash (Err (NoSpace free)) P fails ok = absurd (cc)
 unless_flash (Err (LastGeneration number)) P fails ok = absurd (cc)
@@ -374,8 +375,8 @@ changes_begun tells old mid new command x result starts finished end left = let 
 
 -- a start that was refused or failed
 changes_refused : (tells : Type 0) (old new : StoreView) (command : Command) (error : StoreError) → OnlyStarts tells old new (Err error)
-    → (tells → UnlessFlash {T = Unit {0}} (Err error) (new.flash.steps ≡ old.flash.steps + (copies_of old + changes_of old.layout command (stored old))))
-    → HasDoubtOf {T = Unit {0}} new (Err error) → new.pending ≡ Idle → Changes tells old new command (Err error)
+    → (tells → ByFault {T = Unit {0}} (Err error) (Unit {0}) (new.flash.steps ≡ old.flash.steps + (copies_of old + changes_of old.layout command (stored old))))
+    → ByFault {T = Unit {0}} (Err error) (IsInDoubt new) (IsReady new) → new.pending ≡ Idle → Changes tells old new command (Err error)
 changes_refused tells old new command error starts steps doubt idle = record {
   crash = λ told. kept_or_made old new (after old.layout command (stored old)) (starts.kept told);
   steps = steps;

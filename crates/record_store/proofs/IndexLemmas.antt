@@ -17,9 +17,10 @@ use Rattle.record_slots.proofs.PutLemmas.{IsIndex-put}
 use Rattle.record_slots.proofs.OpenedLemmas.{AreListed-opened, AreListed-replaced, AreListed-cleared}
 use Rattle.record_slots.proofs.SettledLemmas.{listed_without}
 use Rattle.record_slots.proofs.TakenLemmas.{free_slots-gate, taken_gains}
-use Rattle.record_store.specs.Index.{IsListing, IsListOf, HasItsParts, HasOpened, HasLost, IsEntryOf, IsOlderCopy, IsOnlyCopy, Gains, slots_at}
+use Rattle.record_store.specs.Index.{IsListing, IsListOf, HasOpened, HasLost, IsEntryOf, Gains, slots_at}
 use Rattle.record_store.proofs.FreeListLemmas.{free_gained}
 use Rattle.record_store.proofs.CountLemmas.{fewer_ids}
+use Rattle.record_store.proofs.Words.{HasItsParts, IsOlderCopy, IsOnlyCopy}
 
 -- a record was listed
 pub IsListing-listed : (slots size : ℕ) (old new : Found) (id : ℕ) (place : SlotOf) → length old.ids.items < slots → IsWithin slots size place

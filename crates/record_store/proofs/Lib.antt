@@ -1,3 +1,4 @@
+pub mod Words
 pub mod Here
 pub mod Next
 pub mod WalkLemmas

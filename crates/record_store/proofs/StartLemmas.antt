@@ -26,7 +26,7 @@ use Rattle.record_slots.specs.declared.found.SlotOf.{SlotOf}
 use Rattle.record_slots.proofs.TakenLemmas.{rising_distinct, distinct_take}
 use Rattle.record_store.specs.Index.{IsListing, IsPlaceFound}
 use Rattle.record_store.specs.Store.{records_of}
-use Rattle.record_store.specs.Kept.{KnowsSlots, TakesFree}
+use Rattle.record_store.specs.Kept.{KnowsSlots}
 use Rattle.record_store.specs.Start.{AreMarks, IsOver, IsPlanned, generation_over, slots_needed}
 use Rattle.record_store.proofs.AnswerLemmas.{place_stored, no_place_stored}
 use Rattle.record_store.proofs.CountLemmas.{free_and_stored}
@@ -34,6 +34,7 @@ use Rattle.record_store.proofs.PartLemmas.{parts_of_len}
 use Rattle.record_store.proofs.ReadLemmas.{HasRead}
 use Rattle.record_store.proofs.StoreLemmas.{unfold_stored}
 use Rattle.record_store.proofs.WorkLemmas.{large_slot}
+use Rattle.record_store.proofs.Words.{TakesFree}
 
 -- the marks of the first slots were looked at
 pub record HasMarks (tells : Type 0) (slot_size n : ℕ) (old now : FlashState) (slots : List ℕ) (marks : List Bool) : Type 0 where
@@ -87,10 +88,7 @@ planned_takes tells geometry found image len draft replaced is long least most =
     let enough = planned_parts tells geometry found image draft replaced is in
     let four = is.four in
     let counted : draft.parts ≡ parts_of (geometry.slot_size - 64) len = is.parts ∙ ap (parts_of (geometry.slot_size - 64)) long in
-    record {
-      enough = enough;
-      taken = plan_slots draft.slots draft.parts (omega arith) (omega arith) ∙ same_front draft.parts draft.slots found.free.items (omega arith) enough is.taken;
-    }
+    (enough, plan_slots draft.slots draft.parts (omega arith) (omega arith) ∙ same_front draft.parts draft.slots found.free.items (omega arith) enough is.taken)
 
 pub planned_draft : (tells : Type 0) (geometry : Geometry) (found : Found) (image bytes : List ℕ) (draft : Draft) (replaced : Option SlotOf)
     → IsPlanned tells geometry found image draft replaced → draft.len ≡ length bytes → IsListing geometry.slots geometry.slot_size found → 128 ≤ length bytes → length bytes ≤ reach_of (geometry.slot_size - 64)
@@ -98,7 +96,7 @@ pub planned_draft : (tells : Type 0) (geometry : Geometry) (found : Found) (imag
 planned_draft tells geometry found image bytes draft replaced is long listing least most =
     let parts = parts_of_len geometry (length bytes) least most in
     let takes = planned_takes tells geometry found image (length bytes) draft replaced is long least most in
-    let enough : draft.parts ≤ length found.free.items = takes.enough in
+    let enough : draft.parts ≤ length found.free.items = takes.0 in
     let four = is.four in
     let counted : draft.parts ≡ parts_of (geometry.slot_size - 64) (length bytes) = is.parts ∙ ap (parts_of (geometry.slot_size - 64)) long in
     let front = length-take (draft.parts - 1) (drop 1 draft.slots) in
@@ -106,12 +104,12 @@ planned_draft tells geometry found image bytes draft replaced is long listing le
     let some : 1 ≤ draft.parts = omega arith in
     let few : draft.parts ≤ 4 = omega arith in
     let distinct = distinct_take draft.parts found.free.items (rising_distinct found.free.items listing.free.rising) in
-    let below = subst (λ (xs : List ℕ). AreBelow geometry.slots xs) (sym takes.taken) (below_front geometry.slots draft.parts found.free.items listing.free.within) in
+    let below = subst (λ (xs : List ℕ). AreBelow geometry.slots xs) (sym takes.1) (below_front geometry.slots draft.parts found.free.items listing.free.within) in
     record {
       plan = record {
         names = record { least = least; most = most; counted = omega arith; few = omega arith; below = below.1 };
         allowed = is.allowed;
-        distinct = subst (λ (xs : List ℕ). AreDistinct xs) (sym takes.taken) distinct;
+        distinct = subst (λ (xs : List ℕ). AreDistinct xs) (sym takes.1) distinct;
         id = is.id_fits;
         generation = is.generation_fits;
       };

@@ -1,6 +1,6 @@
 -- What a store knows, in terms of what is seen of it.
 use Rattle.std.proofs.Common.{◌≡◌, ◌⊎◌, ℕ, ◌+◌, ◌-◌, ◌*◌, ◌≤◌, Bool, true, false, cond, List, length, take, Option, Some, None, Result, Ok, Err, refl, sym, ap, subst, ◌∙◌, arith, inl, inr}
-use Rattle.std.specs.Prelude.{is_some}
+use Rattle.std.specs.Prelude.{is_some, MatchResult}
 use Rattle.std.specs.FinMap.{get}
 use Rattle.flash_model.specs.declared.geometry.Geometry.{Geometry}
 use Rattle.flash_model.specs.Layouts.{layout_of}
@@ -18,15 +18,16 @@ use Rattle.record_slots.proofs.FirstRecords.{free_slots-only}
 use Rattle.record_store.specs.Index.{IsListing, IsListOf, IsPlaceFound}
 use Rattle.record_store.specs.Store.{StoreView, Pending, Idle, Writing, stored, records_of, free_in, slots_for, map_after, IsReady, IsInDoubt, KeepsMap, DividesAlike, doubted, restarted}
 use Rattle.record_model.specs.RecordMap.{Write, Failed, NoSpace as no_space, LAST_GENERATION, refusal_of}
-use Rattle.record_store.specs.Answers.{StartsWrite, copies_in, copies_of, HasDoubtOf, HasDoubtAtStart, HasFaultsOf, EndsAtFault, EndsCopies, ReadsExactly, TakesReads, reads_to_know, ReadsFlash}
+use Rattle.record_store.specs.Answers.{StartsWrite, copies_in, copies_of, HasFaultsOf, EndsAtFault, EndsCopies, ReadsExactly, TakesReads, reads_to_know, ByFault}
 use Rattle.record_store.specs.Calls.{OnlyLooks, OnlyStarts}
 use Rattle.record_store.specs.Start.{ReadsTimes}
-use Rattle.record_store.specs.Kept.{IsStore, IsWork, IsUnderWay, Knows, KnowsSlots, MayMake, view_of, pending_of}
+use Rattle.record_store.specs.Kept.{IsStore, IsWork, IsUnderWay, Knows, KnowsSlots, view_of, pending_of}
 use Rattle.record_store.specs.declared.errors.StoreError.{StoreError}
 use Rattle.record_store.specs.declared.errors.StoreError.TheVariants.{NoSpace, LastGeneration, NotFound, Empty, Flash, Small}
 use Rattle.record_store.specs.declared.work.Begun.{Begun}
 use Rattle.record_store.specs.declared.work.Begun.TheVariants as works
 use Rattle.record_store.proofs.FaultLemmas.{ends_none, ends_refused, ends_then, ends_read, ends_read_failed}
+use Rattle.record_store.proofs.Words.{ReadsFlash, MayMake}
 
 -- power lost in nothing, or in what kept the records
 pub KeepsMap-none : (v : StoreView) → KeepsMap v v
@@ -154,7 +155,7 @@ pub record IsScanned (tells : Type 0) (geometry : Geometry) (old new : FlashStat
   pub power : LosesOnlyByChange old new
 
 looks_scanned : {T : Type 0} (tells : Type 0) (geometry : Geometry) (old new : FlashState) (doubt after : Bool) (pending : Pending) (y : Result T StoreError) → IsScanned tells geometry old new
-    → doubt ≡ true → pending ≡ Idle → (tells → EndsCopies (view_of geometry old doubt pending) (view_of geometry new after pending) y) → HasDoubtOf (view_of geometry new after pending) y → HasFaultsOf old.faults new.faults y
+    → doubt ≡ true → pending ≡ Idle → (tells → EndsCopies (view_of geometry old doubt pending) (view_of geometry new after pending) y) → ByFault y (IsInDoubt (view_of geometry new after pending)) (IsReady (view_of geometry new after pending)) → HasFaultsOf old.faults new.faults y
     → EndsAtFault {T = T} old new y → OnlyLooks {T = T} tells (view_of geometry old doubt pending) (view_of geometry new after pending) y
 looks_scanned tells geometry old new doubt after pending y scanned unsure idle ended has_doubt cause ends = record {
   kept = scanned.crash;
@@ -214,7 +215,7 @@ looked_reads {T} geometry old new doubt after pending v x is unsure counted =
 -- those of a start come behind them
 pub start_reads : (tells : Type 0) (count : ℕ) (old mid new : StoreView) (x : Unit {0}) (y : Result (Unit {0}) StoreError) → TakesReads {T = Unit {0}} (λ done reads. reads) old mid (Ok x)
     → ReadsExactly tells (λ done. count) mid new y → TakesReads (λ done. raised count) old new y
-start_reads tells count old mid new x (Ok done) had still = still.reads ∙ ap (raised count) had
+start_reads tells count old mid new x (Ok done) had still = still.1 ∙ ap (raised count) had
 start_reads tells count old mid new x (Err (NoSpace free)) had still = ap (λ (v : StoreView). v.flash.reads) still ∙ had
 start_reads tells count old mid new x (Err (LastGeneration id)) had still = ap (λ (v : StoreView). v.flash.reads) still ∙ had
 start_reads tells count old mid new x (Err NotFound) had still = ap (λ (v : StoreView). v.flash.reads) still ∙ had
@@ -227,7 +228,7 @@ pub read_still : {U E : Type 0} (tells : Type 0) (geometry : Geometry) (flash ne
     → ReadsTimes {T = U} {E = E} tells (parts_of (geometry.slot_size - 64) size) flash new (Ok z) → ReadsFlash tells (parts_of (room_of old.layout) size) old.flash new
 read_still tells geometry flash new doubt pending old size z is reads =
     subst (λ (u : StoreView). ReadsFlash tells (parts_of (room_of u.layout) size) u.flash new) is
-    (record { only = record { told = reads.told; steps = reads.steps; power = reads.power }; reads = reads.counted })
+    (record { told = reads.told; steps = reads.steps; power = reads.power }, reads.counted)
 
 pub read_reads : (geometry : Geometry) (flash new : FlashState) (doubt : Bool) (pending : Pending) (old mid : StoreView) (size : ℕ) → view_of geometry flash doubt pending ≡ mid → mid.layout ≡ old.layout
     → mid.flash.reads ≡ reads_to_know old → new.reads ≡ raised (parts_of (geometry.slot_size - 64) size) flash.reads → new.reads ≡ raised (parts_of (room_of old.layout) size) (reads_to_know old)
@@ -296,7 +297,7 @@ same_slots_for old new len layout free =
 
 -- what a store that knows its records leaves of a start, whatever it answers
 pub starts_by : (tells : Type 0) (old mid new : StoreView) (x : Unit {0}) (y : Result (Unit {0}) StoreError) → OnlyLooks tells old mid (Ok x) → (tells → new.flash.told ≡ mid.flash.told) → new.flash.steps ≡ mid.flash.steps
-    → new.flash.powered ≡ mid.flash.powered → DividesAlike mid new → HasDoubtAtStart new y → HasFaultsOf old.flash.faults new.flash.faults y → (tells → EndsCopies old new y) → EndsAtFault old.flash new.flash y → OnlyStarts tells old new y
+    → new.flash.powered ≡ mid.flash.powered → DividesAlike mid new → MatchResult y (λ _. new.in_doubt ≡ false) (λ error. ByFault {T = Unit {0}} (Err error) (IsInDoubt new) (IsReady new)) → HasFaultsOf old.flash.faults new.flash.faults y → (tells → EndsCopies old new y) → EndsAtFault old.flash new.flash y → OnlyStarts tells old new y
 starts_by tells old mid new x y had told steps power equivalent doubt cause ended ends = record {
   kept = λ t. same_told (λ image. records_of old.layout image ≡ stored old) old.flash.told mid.flash.told new.flash.told (told t) (had.kept t);
   few = λ t. let before = had.few t in omega arith;
@@ -313,7 +314,7 @@ starts_by tells old mid new x y had told steps power equivalent doubt cause ende
 pub starts_then : (count : Unit {0} → ℕ) (tells : Type 0) (old mid new : StoreView) (x : Unit {0}) (y : Result (Unit {0}) StoreError) → OnlyLooks tells old mid (Ok x) → ReadsExactly tells count mid new y
     → OnlyStarts tells mid new y → OnlyStarts tells old new y
 starts_then count tells old mid new x (Ok done) had still starts =
-    starts_by tells old mid new x (Ok done) had still.only.told still.only.steps still.only.power starts.equivalent starts.doubt (starts.cause ∙ had.cause) (λ told. still.only.steps ∙ had.ended told) (ends_then old.flash mid.flash new.flash x (Ok done) had.cause had.ends starts.ends)
+    starts_by tells old mid new x (Ok done) had still.0.told still.0.steps still.0.power starts.equivalent starts.doubt (starts.cause ∙ had.cause) (λ told. still.0.steps ∙ had.ended told) (ends_then old.flash mid.flash new.flash x (Ok done) had.cause had.ends starts.ends)
 starts_then count tells old mid new x (Err (NoSpace free)) had still starts =
     let steps : new.flash.steps ≡ mid.flash.steps = ap (λ (v : StoreView). v.flash.steps) still in
     starts_by tells old mid new x (Err (NoSpace free)) had (λ t. ap (λ (v : StoreView). v.flash.told) still) steps (ap (λ (v : StoreView). v.flash.powered) still) starts.equivalent starts.doubt (starts.cause ∙ had.cause)

@@ -11,7 +11,8 @@ use Rattle.record_model.specs.RecordMap.{Command, Write, Clear, Read, Count, Nex
 use Rattle.record_model.specs.History.{Answer, Done, Counted, Found, Refused, Hardware, Played, IsAnswered, AreAnswered, cursor_after, left_by}
 use Rattle.record_slots.specs.Listed.{IsListed}
 use Rattle.record_slots.proofs.FreeLemmas.{listed-cons}
-use Rattle.record_store.specs.Walk.{with_found, found_by, IsNoRead, EndsOr, IsWalk, StaysStored}
+use Rattle.record_store.specs.Walk.{with_found, found_by, EndsOr, IsWalk, StaysStored}
+use Rattle.record_store.proofs.Words.{IsNoRead}
 
 -- the identifiers that are found above a cursor: in rising order, and each of some
 record IsWalked (cursor : ℕ) (ids : List ℕ) (Stays : ℕ → Type 0) : Type 0 where
@@ -71,7 +72,7 @@ first_of_walk : (layout : Layout) (cursor : ℕ) (command : Command) (answer : A
     → IsWalked cursor (with_found answer (found_by rest)) (λ x. IsSome (get stored x) × Stays x)
 first_of_walk layout cursor (Read id) answer taken stored rest Stays answered other walk more = absurd other
 first_of_walk layout cursor Next (Found (Some id)) taken stored rest Stays answered other walk more =
-    walked_on cursor id (found_by rest) stored Stays (answered.1).above (answered.1).least (more walk)
+    walked_on cursor id (found_by rest) stored Stays (answered.1).0 (answered.1).2 (more walk)
 first_of_walk layout cursor Next (Found None) taken stored rest Stays answered other walk more =
     walked_out cursor (found_by rest) stored Stays (ap found_by walk) answered.1
 first_of_walk layout cursor (Write id bytes) Done taken stored rest Stays answered other walk more = walked_same cursor (found_by rest) stored Stays (more walk)

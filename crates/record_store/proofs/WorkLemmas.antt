@@ -12,7 +12,7 @@ use Rattle.flash_model.specs.Layouts.{layout_of}
 use Rattle.base_model.specs.Flash.{Told, Leaves, MayChange, IsErased}
 use Rattle.base_model.specs.Layout.{Layout, reach_of}
 use Rattle.base_model.proofs.CrashLemmas.{Leaves-weaker, Leaves-exit}
-use Rattle.record_model.specs.Records.{Entry, Stored, entry_at, entry_of, slot_at, head_at, is_up, stored_in, parts_of, part_len, is_taken, holds, IsChosen, OnlyFirstUp, NearlyOnlyFirstUp, DiffersInFreeSlot, gate_open, kill_mark}
+use Rattle.record_model.specs.Records.{Entry, Stored, entry_at, entry_of, slot_at, head_at, is_up, stored_in, parts_of, part_len, is_taken, holds, IsChosen, OnlyFirstUp, NearlyOnlyFirstUp, gate_open, kill_mark}
 use Rattle.record_model.proofs.MarkLemmas.{killed_is_not_erased}
 use Rattle.record_model.specs.RecordMap.{Write as write, Clear as clear, made_by, next_generation, pieces_of}
 use Rattle.record_model.specs.Filling as filling
@@ -39,10 +39,12 @@ use Rattle.record_slots.specs.declared.found.SlotOf.{SlotOf}
 use Rattle.record_slots.specs.Listed.{IsWithin}
 use Rattle.record_slots.proofs.OpenedLemmas.{IsChosen-opened}
 use Rattle.record_slots.proofs.SettledLemmas.{kill_can}
-use Rattle.record_store.specs.Index.{IsListOf, HasOpened, HasLost, HasItsParts, IsEntryOf, IsOlderCopy, IsOnlyCopy, IsPlaceFound}
+use Rattle.record_store.specs.Index.{IsListOf, HasOpened, HasLost, IsEntryOf, IsPlaceFound}
 use Rattle.record_store.specs.Store.{Pending, Idle, Writing, records_of, IsAt, map_after, pending_after, changes_before_gate, changes_in_all}
-use Rattle.record_store.specs.Kept.{KnowsDraft, KnowsOldCopy, KnowsCleared, IsWrite, MayMake, HasMade, kept_of, pending_of, work_after, slots_in, further_in, opened_place}
+use Rattle.record_store.specs.Kept.{KnowsDraft, KnowsOldCopy, KnowsCleared, IsWrite, HasMade, kept_of, pending_of, work_after, slots_in, opened_place}
 use Rattle.record_store.specs.declared.work.Begun.TheVariants.{Nothing, Write, OldCopy, Clear}
+use Rattle.record_model.proofs.Words.{DiffersInFreeSlot}
+use Rattle.record_store.proofs.Words.{HasItsParts, IsOlderCopy, IsOnlyCopy, MayMake, further_in}
 
 pub large_slot : (geometry : Geometry) → 65 ≤ geometry.slot_size
 large_slot geometry = omega (arith, geometry.least_slot)
@@ -59,12 +61,12 @@ MayChange-same place len old new change = elim change [
 
 -- with only first slots of records upright, at most one is none
 pub nearly_of_only : (size slots : ℕ) (image : List ℕ) → OnlyFirstUp size slots image → NearlyOnlyFirstUp size slots image
-nearly_of_only size slots image only = record { spare = slots; each = λ k h apart up. only.each k h up }
+nearly_of_only size slots image only = record { spare = slots; each = λ k h apart up. only k h up }
 
 pub only_each : (size slots : ℕ) (image : List ℕ) → OnlyFirstUp size slots image → (k : ℕ) → k < slots → is_up (size - 64) slots (slot_at size image k) ≡ true
     → (e : Entry) × IsChosen (entry_at size slots image) slots k e
 unfolding entry_at
-only_each size slots image only k h up = only.each k h up
+only_each size slots image only k h up = only k h up
 
 -- The changes before the gate
 

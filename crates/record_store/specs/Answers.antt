@@ -6,33 +6,27 @@ use Rattle.flash_model.specs.declared.geometry.Geometry.{Geometry}
 use Rattle.base_model.specs.Flash.{FlashState, StaysPowered, raised, next_count}
 use Rattle.base_model.specs.Layout.{Layout, room_of}
 use Rattle.record_model.specs.Records.{second_copies, parts_in}
-use Rattle.record_model.specs.RecordMap.{Command, Write, Clear, Read, Failed, NoSpace as no_space, NotFound as not_found, Empty as empty, LAST_GENERATION, refusal_of, after, changes_of}
+use Rattle.record_model.specs.RecordMap.{Write, Clear, Read, Failed, NoSpace as no_space, NotFound as not_found, Empty as empty, LAST_GENERATION, refusal_of, after}
 use Rattle.record_slots.specs.Slots.{Fits}
 use Rattle.record_slots.specs.declared.scanning.ScanError.{ScanError}
 use Rattle.record_slots.specs.declared.scanning.ScanError.TheVariants.{Size, Flash as flash_failed, Memory}
-use Rattle.record_store.specs.Store.{StoreView, Pending, Idle, Writing, Clearing, stored, slots_for, changes_before_gate, map_after, pending_after, IsReady, IsInDoubt}
+use Rattle.record_store.specs.Store.{StoreView, Pending, Idle, Writing, Clearing, stored, slots_for, changes_before_gate, map_after, pending_after, IsInDoubt}
 use Rattle.record_store.specs.declared.errors.StoreError.{StoreError}
 use Rattle.record_store.specs.declared.errors.StoreError.TheVariants.{NoSpace, LastGeneration, NotFound, Empty, Flash, Small}
 
+-- what holds of a call that answered a fault, and of one that answered anything else
+abbrev pub ByFault : {T : Type 0} → Result T StoreError → (fault other : Type 0) → Type 0
+ByFault (Ok done) fault other = other
+ByFault (Err (NoSpace free)) fault other = other
+ByFault (Err (LastGeneration id)) fault other = other
+ByFault (Err NotFound) fault other = other
+ByFault (Err Empty) fault other = other
+ByFault (Err Flash) fault other = fault
+ByFault (Err (Small need)) fault other = other
+
 -- a fault is answered only where the flash's count of faults rose, and every other answer leaves it
 abbrev pub HasFaultsOf : {T : Type 0} → ℕ → ℕ → Result T StoreError → Type 0
-HasFaultsOf before after (Ok done) = after ≡ before
-HasFaultsOf before after (Err (NoSpace free)) = after ≡ before
-HasFaultsOf before after (Err (LastGeneration id)) = after ≡ before
-HasFaultsOf before after (Err NotFound) = after ≡ before
-HasFaultsOf before after (Err Empty) = after ≡ before
-HasFaultsOf before after (Err Flash) = (before ≤ after) × Rose before after
-HasFaultsOf before after (Err (Small need)) = after ≡ before
-
--- after a fault the store is in doubt, and after every other answer of a whole command it is not
-abbrev pub HasDoubtOf : {T : Type 0} → StoreView → Result T StoreError → Type 0
-HasDoubtOf store (Ok done) = IsReady store
-HasDoubtOf store (Err (NoSpace free)) = IsReady store
-HasDoubtOf store (Err (LastGeneration id)) = IsReady store
-HasDoubtOf store (Err NotFound) = IsReady store
-HasDoubtOf store (Err Empty) = IsReady store
-HasDoubtOf store (Err Flash) = IsInDoubt store
-HasDoubtOf store (Err (Small need)) = IsReady store
+HasFaultsOf before after result = ByFault result ((before ≤ after) × Rose before after) (after ≡ before)
 
 -- an error of a write: exactly by the map, which it leaves
 abbrev pub RefusesWrite : StoreView → StoreView → ℕ → List ℕ → StoreError → Type 0
@@ -78,11 +72,6 @@ abbrev pub StartsClear : StoreView → StoreView → ℕ → Result (Unit {0}) S
 StartsClear old new id (Ok done) =
     (refusal_of old.layout (Clear id) (stored old) ≡ None) × (new.pending ≡ Clearing id)
 StartsClear old new id (Err error) = RefusesClear old new id error
-
--- whether a store is in doubt after a start; where it is not, what is pending is what the start says
-abbrev pub HasDoubtAtStart : StoreView → Result (Unit {0}) StoreError → Type 0
-HasDoubtAtStart store (Ok done) = store.in_doubt ≡ false
-HasDoubtAtStart store (Err error) = HasDoubtOf {T = Unit {0}} store (Err error)
 
 -- one change was made: the map and what is pending are those after it, and true is answered at the last one. One that the
 -- flash failed leaves the map as before it or as after it, and nothing pending
@@ -136,33 +125,13 @@ RefusesFlash geometry old back (Size found sector) =
 RefusesFlash geometry old back flash_failed = Fits geometry old × (old.faults ≤ back.faults) × Rose old.faults back.faults
 RefusesFlash geometry old back Memory = Fits geometry old × (back ≡ old)
 
--- what holds of every answer but a fault
-abbrev pub UnlessFlash : {T : Type 0} → Result T StoreError → Type 0 → Type 0
-UnlessFlash (Ok done) P = P
-UnlessFlash (Err (NoSpace free)) P = P
-UnlessFlash (Err (LastGeneration id)) P = P
-UnlessFlash (Err NotFound) P = P
-UnlessFlash (Err Empty) P = P
-UnlessFlash (Err Flash) P = Unit {0}
-UnlessFlash (Err (Small need)) P = P
-
--- the fault that is answered is the only one
-abbrev pub FailsOnce : {T : Type 0} → ℕ → ℕ → Result T StoreError → Type 0
-FailsOnce before after (Ok done) = Unit {0}
-FailsOnce before after (Err (NoSpace free)) = Unit {0}
-FailsOnce before after (Err (LastGeneration id)) = Unit {0}
-FailsOnce before after (Err NotFound) = Unit {0}
-FailsOnce before after (Err Empty) = Unit {0}
-FailsOnce before after (Err Flash) = after ≡ next_count before
-FailsOnce before after (Err (Small need)) = Unit {0}
-
--- A call ends at its first fault: nothing is asked of the flash behind it. Up to there power stays. The flash is not
+-- A call ends at its first fault: nothing is asked of the flash behind it, so that the fault is the only one. Up to there power stays. The flash is not
 -- restarted, and no call found it without power that had it at the start
 pub record EndsAtFault {T : Type 0} (old new : FlashState) (result : Result T StoreError) : Type 0 where
-  pub once : FailsOnce old.faults new.faults result
+  pub once : ByFault result (new.faults ≡ next_count old.faults) (Unit {0})
   pub lit : StaysPowered old new
-  pub same_power : UnlessFlash result (new.powered ≡ old.powered)
-  pub later : UnlessFlash result (old.steps ≤ new.steps)
+  pub same_power : ByFault result (Unit {0}) (new.powered ≡ old.powered)
+  pub later : ByFault result (Unit {0}) (old.steps ≤ new.steps)
 
 -- a flash was at most read
 pub record OnlyReadsFlash (tells : Type 0) (old new : FlashState) : Type 0 where
@@ -170,14 +139,9 @@ pub record OnlyReadsFlash (tells : Type 0) (old new : FlashState) : Type 0 where
   pub steps : new.steps ≡ old.steps
   pub power : new.powered ≡ old.powered
 
--- a flash was read so many times
-pub record ReadsFlash (tells : Type 0) (count : ℕ) (old new : FlashState) : Type 0 where
-  pub only : OnlyReadsFlash tells old new
-  pub reads : new.reads ≡ raised count old.reads
-
 -- a store that knows its records answers by as many reads of its flash as this, and every refusal by itself
 abbrev pub ReadsExactly : {T : Type 0} → Type 0 → (T → ℕ) → StoreView → StoreView → Result T StoreError → Type 0
-ReadsExactly tells count old new (Ok done) = ReadsFlash tells (count done) old.flash new.flash
+ReadsExactly tells count old new (Ok done) = OnlyReadsFlash tells old.flash new.flash × (new.flash.reads ≡ raised (count done) old.flash.reads)
 ReadsExactly tells count old new (Err (NoSpace free)) = new ≡ old
 ReadsExactly tells count old new (Err (LastGeneration id)) = new ≡ old
 ReadsExactly tells count old new (Err NotFound) = new ≡ old
@@ -185,22 +149,11 @@ ReadsExactly tells count old new (Err Empty) = new ≡ old
 ReadsExactly tells count old new (Err Flash) = OnlyReadsFlash tells old.flash new.flash
 ReadsExactly tells count old new (Err (Small need)) = new ≡ old
 
--- a store that knows its records starts a clear by itself, and so refuses it
-abbrev pub StartsByItself : {T : Type 0} → StoreView → StoreView → Result T StoreError → Type 0
-StartsByItself old new (Ok done) = new.flash ≡ old.flash
-StartsByItself old new (Err NotFound) = new ≡ old
-StartsByItself old new (Err error) = ⊥
-
--- a store that knows its records answers by itself: it is left as it was, and so is its flash
-abbrev pub AnswersByItself : {T : Type 0} → StoreView → StoreView → Result T StoreError → Type 0
-AnswersByItself old new (Ok done) = new ≡ old
-AnswersByItself old new (Err NotFound) = new ≡ old
-AnswersByItself old new (Err error) = ⊥
-
--- the opening of a flash that has the geometry's size
-abbrev pub OpensOn : {T : Type 0} → Geometry → FlashState → FlashState → Result T ScanError → Type 0
-OpensOn geometry old new (Ok opened) = new.faults ≡ old.faults
-OpensOn geometry old new (Err error) = RefusesFlash geometry old new error
+-- a store that knows its records answers by itself: what holds where it is done is `done`, and a refusal leaves it as it was
+abbrev pub AnswersByItself : {T : Type 0} → (done : Type 0) → StoreView → StoreView → Result T StoreError → Type 0
+AnswersByItself done old new (Ok answer) = done
+AnswersByItself done old new (Err NotFound) = new ≡ old
+AnswersByItself done old new (Err error) = ⊥
 
 -- the upright slots of a store's flash that are not the first slot of their identifier's record
 abbrev pub copies_in : StoreView → ℕ
@@ -212,12 +165,7 @@ copies_of store = if store.in_doubt then copies_in store else 0
 
 -- those were ended, by one change each, and no other change was made
 abbrev pub EndsCopies : {T : Type 0} → StoreView → StoreView → Result T StoreError → Type 0
-EndsCopies old new result = UnlessFlash result (new.flash.steps ≡ old.flash.steps + copies_of old)
-
--- a command was answered, and beside those the flash took exactly the changes that the map gives it
-abbrev pub TakesExactly : {T : Type 0} → StoreView → StoreView → Command → Result T StoreError → Type 0
-TakesExactly old new command result =
-    UnlessFlash result (new.flash.steps ≡ old.flash.steps + (copies_of old + changes_of old.layout command (stored old)))
+EndsCopies old new result = ByFault result (Unit {0}) (new.flash.steps ≡ old.flash.steps + copies_of old)
 
 -- the count of reads of a store's flash once the store knows its records: one in doubt reads head and tail mark of each slot
 abbrev pub reads_to_know : StoreView → ℕ
@@ -238,11 +186,6 @@ abbrev pub copies_pending : Layout → Pending → ℕ
 copies_pending layout Idle = 0
 copies_pending layout (Writing id bytes slots replaces made) = if nat_lt (changes_before_gate layout bytes) made then 1 else 0
 copies_pending layout (Clearing id) = 0
-
--- head and tail mark of each slot were read once, and the flash had power
-abbrev pub HasLooked : {T : Type 0} → StoreView → StoreView → Result T StoreError → Type 0
-HasLooked old new (Ok done) = (new.flash.reads ≡ raised (2 * old.layout.slots) old.flash.reads) × (new.flash.powered ≡ true)
-HasLooked old new (Err error) = Unit {0}
 
 -- a fault
 abbrev pub is_flash : StoreError → Bool

@@ -1,10 +1,9 @@
 -- What is left of a command that is pending.
 use Rattle.std.specs.Prelude.{◌≡◌, ℕ, ◌+◌, ◌-◌, ◌<◌, ◌≤◌, nat_le, if◌then◌else◌, List, Result, OnOk}
-use Rattle.base_model.specs.Flash.{StaysPowered}
 use Rattle.base_model.specs.Layout.{Layout}
 use Rattle.record_model.specs.Records.{Stored}
 use Rattle.record_model.specs.RecordMap.{Write, Clear, made_by}
-use Rattle.record_store.specs.Store.{StoreView, Pending, Idle, Writing, Clearing, stored, changes_before_gate, changes_in_all, StandsIn, KeepsOrMakes, DividesAlike}
+use Rattle.record_store.specs.Store.{StoreView, Pending, Idle, Writing, Clearing, stored, changes_before_gate, changes_in_all, StandsIn, KeepsOrMakes}
 use Rattle.record_store.specs.Answers.{FailsByFlash}
 use Rattle.record_store.specs.Calls.{IsOver}
 use Rattle.record_store.specs.declared.errors.StoreError.{StoreError}
@@ -33,24 +32,6 @@ abbrev pub PlacedAtEnd : Layout → Pending → List ℕ → Type 0
 PlacedAtEnd layout Idle image = Unit {0}
 PlacedAtEnd layout (Writing id bytes slots replaces made) image = StandsIn layout image id slots
 PlacedAtEnd layout (Clearing id) image = Unit {0}
-
--- what is placed at the end stays the same
-abbrev pub PlacesAlike : Layout → Pending → Pending → Type 0
-PlacesAlike layout old now = (image : List ℕ) → PlacedAtEnd layout now image → PlacedAtEnd layout old image
-
--- a store on the way through the changes of a command
-pub record IsOnWay (tells : Type 0) (old now : StoreView) : Type 0 where
-  pub unfinished : IsUnfinished now.layout now.pending
-  pub left : now.flash.steps + changes_left now.layout now.pending ≡ old.flash.steps + changes_left old.layout old.pending
-  pub faults : now.flash.faults ≡ old.flash.faults
-  pub reads : now.flash.reads ≡ old.flash.reads
-  pub power : now.flash.powered ≡ old.flash.powered
-  pub lit : StaysPowered old.flash now.flash
-  pub later : old.flash.steps ≤ now.flash.steps
-  pub equivalent : DividesAlike old now
-  pub places : PlacesAlike old.layout old.pending now.pending
-  pub end : tells → map_at_end now.layout now.pending (stored now) ≡ map_at_end old.layout old.pending (stored old)
-  pub crash : tells → KeepsOrMakes old now (map_at_end old.layout old.pending (stored old))
 
 -- all that is left of a command was made
 pub record IsFinished (tells : Type 0) (old new : StoreView) (result : Result (Unit {0}) StoreError) : Type 0 where

@@ -1,9 +1,8 @@
 -- What a store keeps of its slots, in step with the image of its flash.
-use Rattle.std.specs.Prelude.{◌≡◌, ◌≢◌, ◌⊎◌, ℕ, ◌+◌, ◌-◌, ◌<◌, ◌≤◌, true, ◌==◌, ◌&&◌, not, List, ◌∷◌, Option, Some, None, length, take, slice_index, slice_index_or}
+use Rattle.std.specs.Prelude.{◌≡◌, ◌≢◌, ◌⊎◌, ℕ, ◌-◌, ◌<◌, ◌≤◌, true, ◌==◌, ◌&&◌, not, List, ◌∷◌, Option, Some, None, length, take, slice_index, slice_index_or}
 use Rattle.std.specs.List.{list_any}
-use Rattle.std.specs.FinMap.{get}
 use Rattle.std.specs.VecDeque.{deque_capacity}
-use Rattle.record_model.specs.Records.{Entry, IsChosen, selected, parts_of, is_taken, holds}
+use Rattle.record_model.specs.Records.{Entry, parts_of, is_taken, holds}
 use Rattle.record_slots.specs.declared.found.Found.{Found}
 use Rattle.record_slots.specs.declared.found.SlotOf.{SlotOf}
 use Rattle.record_slots.specs.Listed.{AreListed, IsPlaceOf, IsListed, IsIndex, AreSlots, free_slots}
@@ -25,10 +24,6 @@ pub record IsListOf (entry : ℕ → Option Entry) (slots : ℕ) (found : Found)
 abbrev pub slots_at : ℕ → SlotOf → List ℕ
 slots_at room place = place.slot ∷ take (parts_of room place.len - 1) place.next
 
--- a record has as many further slots as it has parts behind the first
-abbrev pub HasItsParts : ℕ → Entry → Type 0
-HasItsParts room e = 1 + length e.further ≡ parts_of room (length e.body)
-
 -- slot j was free and has a record now, which is newer than all of its identifier; every other slot is as it was
 pub record HasOpened (entry other : ℕ → Option Entry) (slots j : ℕ) (opened : Entry) : Type 0 where
   pub same : (k : ℕ) → k ≢ j → other k ≡ entry k
@@ -49,14 +44,6 @@ pub record IsEntryOf (id : ℕ) (place : SlotOf) (e : Entry) : Type 0 where
   pub generation : e.generation ≡ place.generation
   pub len : length e.body ≡ place.len
   pub further : e.further ≡ take (length e.further) place.next
-
--- the record of slot j is not that of its identifier
-abbrev pub IsOlderCopy : (ℕ → Option Entry) → ℕ → ℕ → Entry → Type 0
-IsOlderCopy entry slots j lost = (k : ℕ) × (c : Entry) × IsChosen entry slots k c × (c.id ≡ lost.id) × (k ≢ j)
-
--- no other slot has the identifier of slot j
-abbrev pub IsOnlyCopy : (ℕ → Option Entry) → ℕ → ℕ → ℕ → Type 0
-IsOnlyCopy entry slots j id = (k : ℕ) (e : Entry) → k < slots → entry k ≡ Some e → e.id ≡ id → k ≡ j
 
 -- where the record of an identifier is; none where no slot has the identifier
 abbrev pub IsPlaceFound : (ℕ → Option Entry) → ℕ → ℕ → Option SlotOf → Type 0
@@ -83,9 +70,3 @@ pub record Frees (slots : ℕ) (freed : List ℕ) (old new : Found) : Type 0 whe
   pub ids : new.ids ≡ old.ids
   pub places : new.places ≡ old.places
   pub looks : new.looks ≡ old.looks
-
--- the record of an identifier is the whole entry of the slot at its place, and what the map of the slots has
-pub record IsStoredAt (entry : ℕ → Option Entry) (slots id : ℕ) (place : SlotOf) (e : Entry) : Type 0 where
-  pub chosen : IsChosen entry slots place.slot e
-  pub is : IsEntryOf id place e
-  pub stored : get (selected entry slots) id ≡ Some (e.body, place.generation)

@@ -1,9 +1,9 @@
 -- What a store keeps between two calls, and what it knows of its flash.
-use Rattle.std.specs.Prelude.{◌≡◌, ◌≢◌, ◌⊎◌, ℕ, ◌+◌, ◌-◌, ◌<◌, ◌≤◌, Bool, true, false, is_some, List, [], ◌∷◌, length, take, drop, slice_index, Option, Some, None, IfSome}
+use Rattle.std.specs.Prelude.{◌≡◌, ◌≢◌, ℕ, ◌+◌, ◌-◌, ◌<◌, ◌≤◌, Bool, true, false, is_some, List, [], ◌∷◌, length, take, drop, slice_index, Option, Some, None, IfSome}
 use Rattle.std.specs.FinMap.{get}
 use Rattle.flash_model.specs.declared.geometry.Geometry.{Geometry}
 use Rattle.flash_model.specs.Layouts.{layout_of}
-use Rattle.base_model.specs.Flash.{Told, FlashState, Leaves}
+use Rattle.base_model.specs.Flash.{FlashState}
 use Rattle.base_model.specs.Layout.{Layout, reach_of}
 use Rattle.record_model.specs.Records.{Entry, entry_at, slot_at, is_up, IsChosen, OnlyFirstUp, NearlyOnlyFirstUp}
 use Rattle.record_model.specs.RecordMap.{next_generation}
@@ -21,11 +21,8 @@ use Rattle.record_store.specs.declared.work.Begun.{Begun}
 use Rattle.record_store.specs.declared.work.Begun.TheVariants.{Nothing, Write, OldCopy, Clear}
 
 -- the slots of a draft, the first one first
-abbrev pub further_in : Draft → List ℕ
-further_in draft = take (draft.parts - 1) (drop 1 draft.slots)
-
 abbrev pub slots_in : Draft → List ℕ
-slots_in draft = slice_index draft.slots 0 ∷ further_in draft
+slots_in draft = slice_index draft.slots 0 ∷ take (draft.parts - 1) (drop 1 draft.slots)
 
 -- the place of its record
 abbrev pub opened_place : Draft → SlotOf
@@ -45,16 +42,11 @@ pending_of layout buffer (OldCopy draft place) =
     Writing draft.id (take draft.len buffer) (slots_in draft) true (changes_before_gate layout (take draft.len buffer) + 1)
 pending_of layout buffer (Clear id place) = Clearing id
 
--- a draft takes the first of the slots that are listed as free
-pub record TakesFree (found : Found) (draft : Draft) : Type 0 where
-  pub enough : draft.parts ≤ length found.free.items
-  pub taken : slots_in draft ≡ take draft.parts found.free.items
-
--- a write that is pending: its draft has its slots in a store of this geometry
+-- a write that is pending: its draft has its slots in a store of this geometry, the first of those that are listed as free
 pub record IsWrite (geometry : Geometry) (found : Found) (body : List ℕ) (draft : Draft) (stage : Stage) (replaced : Option SlotOf) : Type 0 where
   pub planned : IsDraft geometry draft body
   pub at : IsStage geometry draft body stage
-  pub takes : TakesFree found draft
+  pub takes : (draft.parts ≤ length found.free.items) × (slots_in draft ≡ take draft.parts found.free.items)
   pub over : IfSome replaced (IsWithin geometry.slots geometry.slot_size)
 
 -- what a store keeps beside its flash and what is pending: its geometry, the lists of its slots, and its buffer
@@ -111,7 +103,7 @@ pub record KnowsOldCopy (geometry : Geometry) (found : Found) (image : List ℕ)
   pub lost : Entry
   pub here : entry_at geometry.slot_size geometry.slots image place.slot ≡ Some lost
   pub is : IsEntryOf draft.id place lost
-  pub newer : IsAt (layout_of geometry) image draft.id (slice_index draft.slots 0) (further_in draft)
+  pub newer : IsAt (layout_of geometry) image draft.id (slice_index draft.slots 0) (take (draft.parts - 1) (drop 1 draft.slots))
   pub apart : slice_index draft.slots 0 ≢ place.slot
   pub others : (k : ℕ) → k < geometry.slots → k ≢ place.slot → is_up (geometry.slot_size - 64) geometry.slots (slot_at geometry.slot_size image k) ≡ true
       → (e : Entry) × IsChosen (entry_at geometry.slot_size geometry.slots image) geometry.slots k e
@@ -147,12 +139,6 @@ pub record IsStore (tells : Type 0) (geometry : Geometry) (flash : FlashState) (
   pub certain : IsUnderWay work → in_doubt ≡ false
   pub knows : tells → in_doubt ≡ false → Knows geometry found buffer flash.told.image work
   pub spare : tells → NearlyOnlyFirstUp geometry.slot_size geometry.slots flash.told.image
-
--- power lost in the next change of what is pending leaves the records from before it, or those after it
-abbrev pub MayMake : Geometry → Pending → Told → Told → Type 0
-MayMake geometry pending old new = Leaves old new (λ image.
-    (records_of (layout_of geometry) image ≡ records_of (layout_of geometry) old.image)
-    ⊎ (records_of (layout_of geometry) image ≡ map_after (layout_of geometry) pending (records_of (layout_of geometry) old.image)))
 
 -- the next change of what was pending was made
 pub record HasMade (tells : Type 0) (kept : Kept) (old new : List ℕ) (work next : Begun) : Type 0 where

@@ -6,7 +6,7 @@ use Rattle.flash_model.specs.Layouts.{layout_of}
 use Rattle.base_model.specs.Flash.{FlashState, Leaves, restart}
 use Rattle.base_model.specs.Layout.{Layout, room_of}
 use Rattle.record_model.specs.Records.{Stored, Entry, entry_at, stored_in, parts_of, IsChosen, OnlyFirstUp}
-use Rattle.record_model.specs.RecordMap.{Command, Write, Clear, changes_of_parts, made_by, after}
+use Rattle.record_model.specs.RecordMap.{Write, Clear, changes_of_parts, made_by}
 use Rattle.record_slots.specs.Listed.{free_slots, first_records}
 
 -- what a store has begun: nothing, the write of a record into these slots, of whose flash changes so many are made and
@@ -93,10 +93,6 @@ abbrev pub KeepsOrMakes : StoreView → StoreView → Stored → Type 0
 KeepsOrMakes old new made = Leaves old.flash.told new.flash.told
     (λ image. (records_of old.layout image ≡ stored old) ⊎ (records_of old.layout image ≡ made))
 
--- power lost on the way leaves the records from before a command, or those that its Ok makes
-abbrev pub IsBeforeOrAfter : StoreView → StoreView → Command → Type 0
-IsBeforeOrAfter old new command = KeepsOrMakes old new (after old.layout command (stored old))
-
 -- a store divides its flash as before, and the flash has the size that it had
 pub record DividesAlike (old new : StoreView) : Type 0 where
   pub layout : new.layout ≡ old.layout
@@ -119,21 +115,12 @@ IsBusy Idle = ⊥
 IsBusy (Writing id bytes slots replaces made) = Unit {0}
 IsBusy (Clearing id) = Unit {0}
 
--- the whole write of a record is pending
-abbrev pub IsWriteOf : ℕ → List ℕ → Pending → Type 0
-IsWriteOf id bytes pending = (slots : List ℕ) × ((replaces : Bool) × (pending ≡ Writing id bytes slots replaces 0))
-
-abbrev pub doubt_after : Pending → Bool → Bool
-doubt_after Idle doubt = doubt
-doubt_after (Writing id bytes slots replaces made) doubt = true
-doubt_after (Clearing id) doubt = true
-
--- the store with what was pending given up
+-- the store with what was pending given up: it is in doubt where something was
 abbrev pub abandoned : StoreView → StoreView
 abandoned store = record {
   flash = store.flash;
   layout = store.layout;
-  in_doubt = doubt_after store.pending store.in_doubt;
+  in_doubt = elim store.pending [ Idle ↦ store.in_doubt | other ↦ true ];
   pending = Idle;
 }
 

@@ -3,7 +3,7 @@ use Rattle.std.specs.Prelude.{◌≡◌, ℕ, List, [], ◌∷◌, Some, None, I
 use Rattle.std.specs.FinMap.{get}
 use Rattle.base_model.specs.Layout.{Layout}
 use Rattle.record_model.specs.Records.{Stored}
-use Rattle.record_model.specs.RecordMap.{Command, Read}
+use Rattle.record_model.specs.RecordMap.{Read}
 use Rattle.record_model.specs.History.{Answer, Found, Played, left_by}
 
 abbrev pub with_found : Answer → List ℕ → List ℕ
@@ -15,19 +15,14 @@ abbrev pub found_by : List Played → List ℕ
 found_by [] = []
 found_by (played ∷ rest) = with_found played.answer (found_by rest)
 
--- every command but a read, which moves the cursor too
-abbrev pub IsNoRead : Command → Type 0
-IsNoRead (Read id) = ⊥
-IsNoRead command = Unit {0}
-
 abbrev pub EndsOr : Answer → List Played → Type 0 → Type 0
 EndsOr (Found None) rest more = rest ≡ []
 EndsOr answer rest more = more
 
--- no read is among these commands, and the last of them is the first next that found no more
+-- no read is among these commands, which moves the cursor too, and the last of them is the first next that found no more
 abbrev pub IsWalk : List Played → Type 0
 IsWalk [] = ⊥
-IsWalk (played ∷ rest) = IsNoRead played.command × EndsOr played.answer rest (IsWalk rest)
+IsWalk (played ∷ rest) = (elim played.command as (λ command. Type 0) [ Read id ↦ ⊥ | other ↦ Unit {0} ]) × EndsOr played.answer rest (IsWalk rest)
 
 -- an identifier is stored before the commands, and after every one of them
 abbrev pub StaysStored : Layout → ℕ → List Played → Stored → Type 0

@@ -1,13 +1,13 @@
 // The lists that a store keeps of its slots: the identifiers with the places of their records, and the free slots.
-ghost use Rattle.std.specs.Prelude.{◌≡◌, ◌⊎◌, ℕ, ◌+◌, ◌-◌, ◌<◌, ◌≤◌, List, false, [], ◌∷◌, length, take, drop, Option, IfSome};
+ghost use Rattle.std.specs.Prelude.{◌≡◌, ◌≢◌, ◌⊎◌, ℕ, ◌+◌, ◌-◌, ◌<◌, ◌≤◌, List, false, [], ◌∷◌, length, take, drop, Option, IfSome};
 ghost use Rattle.std.specs.List.Sorted.{IsStrictlyIncreasing};
 ghost use Rattle.std.specs.VecDeque.{deque_capacity};
 ghost use Rattle.record_slots.specs.Next.{IsNextAfter};
-ghost use Rattle.record_model.specs.Records.{Entry, selected, is_reserved};
+ghost use Rattle.record_model.specs.Records.{Entry, IsChosen, selected, is_reserved, parts_of};
 ghost use Rattle.record_model.specs.RecordMap.{IsNextAbove};
 ghost use Rattle.record_slots.specs.Listed.{AreSlots, IsIndex, IsWithin};
 ghost use Rattle.record_slots.specs.Listing.{IsNewlyListed, IsListedAgain};
-ghost use Rattle.record_store.specs.Index.{IsListing, IsListOf, HasItsParts, HasOpened, HasLost, IsEntryOf, IsOlderCopy, IsOnlyCopy, IsPlaceFound, IsPlaceAt, Frees, slots_at};
+ghost use Rattle.record_store.specs.Index.{IsListing, IsListOf, HasOpened, HasLost, IsEntryOf, IsPlaceFound, IsPlaceAt, Frees, slots_at};
 
 use flash_model::Geometry;
 use record_slots::{Found, RecordId, SlotOf, list_record, next_after, parts_of, position_of};
@@ -69,7 +69,8 @@ pub fn copy_killed(found: &mut Found, geometry: &Geometry, place: SlotOf)
     ensures listing { IsListing geometry.now.slots geometry.now.slot_size found.new }
     ensures list { (entry other : ℕ → Option Entry) (id : ℕ) (lost : Entry)
         → HasLost entry other geometry.now.slots place.slot lost → IsEntryOf id place lost
-        → HasItsParts (geometry.now.slot_size - 64) lost → IsOlderCopy entry geometry.now.slots place.slot lost
+        → 1 + length lost.further ≡ parts_of (geometry.now.slot_size - 64) (length lost.body)
+        → ((k : ℕ) × (c : Entry) × IsChosen entry geometry.now.slots k c × (c.id ≡ lost.id) × (k ≢ place.slot))
         → IsListOf entry geometry.now.slots found.old → IsListOf other geometry.now.slots found.new }
 {
     free_record(found, geometry, place);
@@ -81,7 +82,8 @@ pub fn record_cleared(found: &mut Found, geometry: &Geometry, id: RecordId)
     ensures listing { IsListing geometry.now.slots geometry.now.slot_size found.new }
     ensures list { (entry other : ℕ → Option Entry) (j : ℕ) (lost : Entry) → j < geometry.now.slots
         → HasLost entry other geometry.now.slots j lost → lost.id ≡ id
-        → HasItsParts (geometry.now.slot_size - 64) lost → IsOnlyCopy entry geometry.now.slots j id
+        → 1 + length lost.further ≡ parts_of (geometry.now.slot_size - 64) (length lost.body)
+        → ((k : ℕ) (e : Entry) → k < geometry.now.slots → entry k ≡ Some e → e.id ≡ id → k ≡ j)
         → IsListOf entry geometry.now.slots found.old → IsListOf other geometry.now.slots found.new }
 {
     let Ok(at) = position_of(&found.ids, id) else {

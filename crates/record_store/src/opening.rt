@@ -1,12 +1,12 @@
 // The opening of a flash: all memory of a store, and a look at each slot.
-ghost use Rattle.std.specs.Prelude.{◌≡◌, ◌+◌, ◌*◌, ◌≤◌, ◌-◌, length, OnOk, IfOk, IfErr};
+ghost use Rattle.std.specs.Prelude.{◌≡◌, ◌+◌, ◌*◌, ◌≤◌, ◌-◌, length, OnOk, IfOk, IfErr, MatchResult};
 ghost use Rattle.base_model.specs.Flash.{LosesOnlyByChange, StaysPowered, raised};
 ghost use Rattle.base_model.specs.Layout.{reach_of};
 ghost use Rattle.flash_model.specs.Layouts.{layout_of};
 ghost use Rattle.record_slots.specs.Slots.{Fits};
 ghost use Rattle.record_slots.specs.Answers.{IsOneFault};
 ghost use Rattle.record_slots.specs.Recovered.{KillsBelow};
-ghost use Rattle.record_store.specs.Answers.{OpensOn};
+ghost use Rattle.record_store.specs.Answers.{RefusesFlash};
 ghost use Rattle.record_store.specs.Index.{IsListing};
 ghost use Rattle.record_store.specs.Kept.{KnowsSlots};
 ghost use Rattle.record_store.specs.Store.{KeepsRecordsOf};
@@ -23,7 +23,8 @@ pub fn open<F: Flash>(
     geometry: &Geometry,
 ) -> Result<(Found, Vec<u8>), ScanError>
     requires fits { Fits geometry.now (F.state flash.old) }
-    ensures answer { OpensOn geometry.now (F.state flash.old) (F.state flash.new) result }
+    ensures answer { MatchResult result (λ _. (F.state flash.new).faults ≡ (F.state flash.old).faults)
+        (λ error. RefusesFlash geometry.now (F.state flash.old) (F.state flash.new) error) }
     ensures listing { IfOk result (λ opened. IsListing geometry.now.slots geometry.now.slot_size opened.0) }
     ensures room { IfOk result (λ opened. length opened.1.items ≡ reach_of (geometry.now.slot_size - 64)) }
     ensures knows { IfOk result (λ opened. F.tells → KnowsSlots (layout_of geometry.now)

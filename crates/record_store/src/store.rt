@@ -1,5 +1,5 @@
 // The store.
-ghost use Rattle.std.specs.Prelude.{◌≡◌, ◌↔◌, ◌⊎◌, ℕ, ◌+◌, ◌-◌, ◌*◌, ◌<◌, ◌≤◌, List, true, false, length, IsOk, OnOk, OnErr, IfOk, IfErr};
+ghost use Rattle.std.specs.Prelude.{◌≡◌, ◌↔◌, ◌⊎◌, ℕ, ◌+◌, ◌-◌, ◌*◌, ◌<◌, ◌≤◌, List, Bool, true, false, length, IsOk, OnOk, OnErr, IfOk, IfErr};
 ghost use Rattle.std.specs.FinMap.{len};
 ghost use Rattle.base_model.specs.Flash.{LosesOnlyByChange, StaysPowered, raised, next_count};
 ghost use Rattle.base_model.specs.Layout.{room_of, reach_of};
@@ -9,9 +9,9 @@ ghost use Rattle.record_model.specs.RecordMap.{Write, Clear, Read, IsNextAbove};
 ghost use Rattle.record_slots.specs.Slots.{Fits};
 ghost use Rattle.record_slots.specs.Answers.{IsOneFault};
 ghost use Rattle.record_slots.specs.Recovered.{KillsBelow};
-ghost use Rattle.record_store.specs.Store.{Idle, Clearing, stored, free_in, slots_for, map_after, IsBusy, IsWriteOf, IsSettled, IsReady, IsOpened, IsFlashOf, StandsIn, PlacedAfter, DividesAlike, KeepsMap, KeepsOrMakes, KeepsRecordsOf, abandoned, doubted, restarted};
+ghost use Rattle.record_store.specs.Store.{Idle, Clearing, stored, free_in, slots_for, map_after, IsBusy, IsSettled, IsReady, IsOpened, IsFlashOf, StandsIn, PlacedAfter, DividesAlike, KeepsMap, KeepsOrMakes, KeepsRecordsOf, abandoned, doubted, restarted, Writing};
 ghost use Rattle.record_store.specs.Finish.{IsUnfinished, IsFinished};
-ghost use Rattle.record_store.specs.Answers.{HasFaultsOf, EndsAtFault, StartsWrite, StartsClear, IsStep, HasStepped, AnswersWrite, AnswersClear, AnswersRead, AnswersLength, FailsByFlash, RefusesFlash, ReadsExactly, StartsByItself, AnswersByItself, HasLooked, TakesReads, copies_in, copies_pending};
+ghost use Rattle.record_store.specs.Answers.{HasFaultsOf, EndsAtFault, StartsWrite, StartsClear, IsStep, HasStepped, AnswersWrite, AnswersClear, AnswersRead, AnswersLength, FailsByFlash, RefusesFlash, ReadsExactly, AnswersByItself, TakesReads, copies_in, copies_pending};
 ghost use Rattle.record_store.specs.Calls.{OnlyLooks, OnlyStarts, Changes};
 
 use crate::errors::{StoreError, StoreRefused};
@@ -121,7 +121,7 @@ impl<F: Flash> Store<F> {
         requires least { 128 ≤ length bytes.now }
         requires reach { length bytes.now ≤ reach_of (room_of self.old.layout) }
         ensures answer { F.tells → StartsWrite self.old self.new id bytes.now result }
-        ensures pending { OnOk result (IsWriteOf id bytes.now self.new.pending) }
+        ensures pending { OnOk result ((slots : List ℕ) × ((replaces : Bool) × (self.new.pending ≡ Writing id bytes.now slots replaces 0))) }
 
         // The slots are known before: those that are free once a store in doubt has looked at them.
         ensures slots { OnOk result (F.tells
@@ -144,7 +144,7 @@ impl<F: Flash> Store<F> {
         requires idle { self.old.pending ≡ Idle }
         ensures answer { F.tells → StartsClear self.old self.new id result }
         ensures pending { OnOk result (self.new.pending ≡ Clearing id) }
-        ensures still { self.old.in_doubt ≡ false → StartsByItself self.old self.new result }
+        ensures still { self.old.in_doubt ≡ false → AnswersByItself (self.new.flash ≡ self.old.flash) self.old self.new result }
         ensures reads { TakesReads (λ _ reads. reads) self.old self.new result }
         ensures leaves { OnlyStarts F.tells self.old self.new result }
     {
@@ -294,7 +294,7 @@ impl<F: Flash> Store<F> {
         ensures answer { F.tells → IfOk result (λ n. n ≡ len (stored self.old)) }
         ensures few { IfOk result (λ n. n ≤ self.old.layout.slots) }
         ensures error { FailsByFlash result }
-        ensures still { self.old.in_doubt ≡ false → AnswersByItself self.old self.new result }
+        ensures still { self.old.in_doubt ≡ false → AnswersByItself (self.new ≡ self.old) self.old self.new result }
         ensures reads { TakesReads (λ _ reads. reads) self.old self.new result }
         ensures leaves { OnlyLooks F.tells self.old self.new result }
     {
@@ -307,7 +307,7 @@ impl<F: Flash> Store<F> {
         requires idle { self.old.pending ≡ Idle }
         ensures answer { F.tells → IfOk result (IsNextAbove 0 (stored self.old)) }
         ensures error { FailsByFlash result }
-        ensures still { self.old.in_doubt ≡ false → AnswersByItself self.old self.new result }
+        ensures still { self.old.in_doubt ≡ false → AnswersByItself (self.new ≡ self.old) self.old self.new result }
         ensures reads { TakesReads (λ _ reads. reads) self.old self.new result }
         ensures leaves { OnlyLooks F.tells self.old self.new result }
     {
@@ -319,7 +319,7 @@ impl<F: Flash> Store<F> {
         requires idle { self.old.pending ≡ Idle }
         ensures answer { F.tells → IfOk result (IsNextAbove cursor (stored self.old)) }
         ensures error { FailsByFlash result }
-        ensures still { self.old.in_doubt ≡ false → AnswersByItself self.old self.new result }
+        ensures still { self.old.in_doubt ≡ false → AnswersByItself (self.new ≡ self.old) self.old self.new result }
         ensures reads { TakesReads (λ _ reads. reads) self.old self.new result }
         ensures leaves { OnlyLooks F.tells self.old self.new result }
     {
@@ -331,7 +331,7 @@ impl<F: Flash> Store<F> {
     pub fn length(&mut self, id: RecordId) -> Result<u32, StoreError>
         requires idle { self.old.pending ≡ Idle }
         ensures answer { F.tells → AnswersLength self.old id result }
-        ensures still { self.old.in_doubt ≡ false → AnswersByItself self.old self.new result }
+        ensures still { self.old.in_doubt ≡ false → AnswersByItself (self.new ≡ self.old) self.old self.new result }
         ensures reads { TakesReads (λ _ reads. reads) self.old self.new result }
         ensures leaves { OnlyLooks F.tells self.old self.new result }
     {
@@ -413,9 +413,10 @@ impl<F: Flash> Store<F> {
     fn settle(&mut self) -> Result<(), StoreError>
         requires idle { self.old.pending ≡ Idle }
         ensures error { FailsByFlash result }
-        ensures still { self.old.in_doubt ≡ false → AnswersByItself self.old self.new result }
+        ensures still { self.old.in_doubt ≡ false → AnswersByItself (self.new ≡ self.old) self.old self.new result }
         ensures settled { OnOk result (F.tells → IsSettled self.new) }
-        ensures looked { self.old.in_doubt ≡ true → HasLooked self.old self.new result }
+        ensures looked { self.old.in_doubt ≡ true → OnOk result
+            ((self.new.flash.reads ≡ raised (2 * self.old.layout.slots) self.old.flash.reads) × (self.new.flash.powered ≡ true)) }
         ensures reads { TakesReads (λ _ reads. reads) self.old self.new result }
         ensures free { OnOk result (F.tells → free_in self.new ≡ free_in self.old) }
         ensures leaves { OnlyLooks F.tells self.old self.new result }
@@ -438,7 +439,7 @@ impl<F: Flash> Store<F> {
         requires least { 128 ≤ length bytes.now }
         requires reach { length bytes.now ≤ reach_of (room_of self.old.layout) }
         ensures answer { F.tells → StartsWrite self.old self.new id bytes.now result }
-        ensures pending { OnOk result (IsWriteOf id bytes.now self.new.pending) }
+        ensures pending { OnOk result ((slots : List ℕ) × ((replaces : Bool) × (self.new.pending ≡ Writing id bytes.now slots replaces 0))) }
         ensures free { OnOk result (F.tells → free_in self.new ≡ free_in self.old) }
         ensures still { ReadsExactly F.tells (λ _. 2 * parts_of (room_of self.old.layout)
             (length bytes.now)) self.old self.new result }

@@ -1,13 +1,14 @@
 use Rattle.std.proofs.Common.{ℕ, List, ◌∙◌, rules}
 use Rattle.flash_model.specs.Layouts.{layout_of}
 use Rattle.record_model.specs.Records.{NearlyOnlyFirstUp}
-use Rattle.record_store.specs.Kept.{MayMake, pending_of}
+use Rattle.record_store.specs.Kept.{pending_of}
 use Rattle.record_store.specs.declared.work.Begun.TheVariants.{Clear}
 use Rattle.record_store.proofs.FaultLemmas.{asks_lit, one_change}
 use Rattle.record_store.proofs.WorkLemmas.{can_be_killed, cleared_may, cleared_spare, cleared_made}
 use Rattle.record_store.proofs.stepping.end_record.Given as given
 use Rattle.record_store.proofs.stepping.end_record.Goals as goal
 use Rattle.record_store.proofs.stepping.end_record.Goals.{After-kill}
+use Rattle.record_store.proofs.Words.{MayMake}
 
 pub kill-requires-clause-erased : goal.kill-requires-clause-erased
 kill-requires-clause-erased g c tells =

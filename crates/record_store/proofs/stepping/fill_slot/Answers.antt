@@ -2,13 +2,14 @@ use Rattle.std.proofs.Common.{rules}
 use Rattle.flash_model.specs.Layouts.{layout_of}
 use Rattle.record_store.specs.declared.draft.Stage.TheVariants.{Fill}
 use Rattle.record_model.specs.Records.{NearlyOnlyFirstUp}
-use Rattle.record_store.specs.Kept.{MayMake, pending_of}
+use Rattle.record_store.specs.Kept.{pending_of}
 use Rattle.record_store.specs.declared.work.Begun.TheVariants.{Write}
 use Rattle.record_store.proofs.FaultLemmas.{asks_lit, one_change}
 use Rattle.record_store.proofs.WorkLemmas.{filled_may, filled_spare, filled_made}
 use Rattle.record_store.proofs.stepping.fill_slot.Given as given
 use Rattle.record_store.proofs.stepping.fill_slot.Goals as goal
 use Rattle.record_store.proofs.stepping.fill_slot.Goals.{After-prepare}
+use Rattle.record_store.proofs.Words.{MayMake}
 
 -- what power lost in the change leaves
 torn : (g : given.Over) (c : goal.After-prepare g) → g.F.Flash.tells

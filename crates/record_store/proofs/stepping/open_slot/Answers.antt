@@ -5,12 +5,13 @@ use Rattle.record_store.specs.Drafts.{plan_of}
 use Rattle.record_slots.specs.declared.found.SlotOf.{SlotOf}
 use Rattle.record_slots.specs.Listed.{IsWithin}
 use Rattle.record_store.specs.Index.{HasOpened, IsEntryOf}
-use Rattle.record_store.specs.Kept.{HasMade, kept_of, further_in}
+use Rattle.record_store.specs.Kept.{HasMade, kept_of}
 use Rattle.record_store.specs.declared.work.Begun.{Begun}
 use Rattle.record_store.specs.declared.work.Begun.TheVariants.{Write}
 use Rattle.record_store.specs.declared.draft.Stage.TheVariants.{Gate}
 use Rattle.record_store.proofs.FaultLemmas.{asks_lit, one_change}
 use Rattle.record_store.proofs.WorkLemmas.{gate_may, gate_made, gate_nearly_only, has_opened, opened_entry_of, opened_within, MayChange-same}
+use Rattle.record_store.proofs.Words.{further_in}
 use Rattle.record_store.proofs.stepping.open_slot.Goals as goal
 
 pub returns-in_err-publish-clause-makes : goal.returns-in_err-publish-clause-makes
@@ -47,7 +48,7 @@ returns-clause-makes g c =
           c.record_opened.ensures.list (entry_at geometry.slot_size geometry.slots old.image) (entry_at geometry.slot_size geometry.slots new.image) (record_for (plan_of draft body))
           (subst (λ (p : SlotOf). HasOpened (entry_at geometry.slot_size geometry.slots old.image) (entry_at geometry.slot_size geometry.slots new.image) geometry.slots p.slot (record_for (plan_of draft body))) (sym is)
           (has_opened geometry c.args.found.now draft body old.image new.image Gate c.args.replaced (c.requires.knows tells) (c.in_ok-publish.ensures.opened tells)))
-          (subst (λ (p : SlotOf). IsEntryOf draft.id p (record_for (plan_of draft body))) (sym is) (opened_entry_of geometry draft body c.requires.form.planned c.opened_place-place.ensures.four)) (ap (λ (p : SlotOf). p.slot ∷ further_in draft) is ∙ c.requires.form.takes.taken) (c.requires.knows tells).slots.list));
+          (subst (λ (p : SlotOf). IsEntryOf draft.id p (record_for (plan_of draft body))) (sym is) (opened_entry_of geometry draft body c.requires.form.planned c.opened_place-place.ensures.four)) (ap (λ (p : SlotOf). p.slot ∷ further_in draft) is ∙ c.requires.form.takes.1) (c.requires.knows tells).slots.list));
       crash = λ tells.
           gate_may geometry c.args.found.now buffer draft c.args.replaced old new
           c.requires.form.planned (c.requires.knows tells) (c.publish.ensures.crash tells);

@@ -1,4 +1,5 @@
-use Rattle.record_store.specs.Finish.{changes_left, IsOnWay}
+use Rattle.record_store.specs.Finish.{changes_left}
+use Rattle.record_store.proofs.Words.{IsOnWay}
 use Rattle.record_store.proofs.store.Store.finish.Given as goal
 
 abbrev pub invariant-loop : goal.invariant-loop

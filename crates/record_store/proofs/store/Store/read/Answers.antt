@@ -5,7 +5,6 @@ use Rattle.std.proofs.lemmas.Bool.{eqb-true, eqb-false}
 use Rattle.base_model.specs.Layout.{Layout, reach_of}
 use Rattle.record_model.specs.Records.{Stored, entry_at}
 use Rattle.record_model.proofs.RefusalLemmas.{read_empty, read_missing}
-use Rattle.record_store.specs.Index.{IsStoredAt}
 use Rattle.record_store.specs.Store.{StoreView, stored}
 use Rattle.flash_model.specs.Layouts.{layout_of}
 use Rattle.record_store.specs.Kept.{IsStore, pending_of}
@@ -13,6 +12,7 @@ use Rattle.record_store.proofs.AnswerLemmas.{count_before, none_before, stored_a
 use Rattle.record_store.proofs.BeginLemmas.{written_back}
 use Rattle.record_store.proofs.PartLemmas.{bytes_are}
 use Rattle.record_store.proofs.StoreLemmas.{looked, of_old, read_store, read_leaves, read_failed_leaves, read_still, read_reads}
+use Rattle.record_store.proofs.Words.{IsStoredAt}
 use Rattle.record_store.proofs.store.Store.read.Goals as goal
 
 pub returns-then-is_empty-clause-answer : goal.returns-then-is_empty-clause-answer

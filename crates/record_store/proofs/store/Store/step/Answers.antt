@@ -1,10 +1,11 @@
 use Rattle.std.proofs.Common.{ℕ, List, subst}
 use Rattle.flash_model.specs.Layouts.{layout_of}
-use Rattle.record_store.specs.Kept.{MayMake, pending_of}
+use Rattle.record_store.specs.Kept.{pending_of}
 use Rattle.record_store.proofs.StoreLemmas.{may_since, may_exit}
 use Rattle.record_store.proofs.store.Store.step.Given as given
 use Rattle.record_store.proofs.store.Store.step.Goals as goal
 use Rattle.record_store.proofs.store.Store.step.Goals.{After-make_change-made}
+use Rattle.record_store.proofs.Words.{MayMake}
 
 -- power lost in the change leaves the records from before it, or those after it
 may_make : (g : given.Over) (c : goal.After-make_change-made g) → g.F.Flash.tells
