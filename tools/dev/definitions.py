@@ -50,7 +50,18 @@ def imports(text: str) -> dict[str, str]:
     return found
 
 
+def passed_on(crates: Path) -> dict[str, str]:
+    """What a file gives out under a name of its own, and another one defines (`pub use`): for each such name what it stands for."""
+    found = {}
+    for path in crates.glob("*/specs/*.antt"):
+        module = f"Rattle.{path.parent.parent.name}.specs.{path.stem}"
+        given = "\n".join(line for line in path.read_text().splitlines() if "pub use " in line)
+        found |= {f"{module}.{name}": key for name, key in imports(given).items()}
+    return found
+
+
 def definitions(crates: Path) -> Iterator[Definition]:
+    given = passed_on(crates)
     for path in sorted(crates.glob("*/specs/*.antt")):
         module = f"Rattle.{path.parent.parent.name}.specs.{path.stem}"
         text = path.read_text()
@@ -60,12 +71,19 @@ def definitions(crates: Path) -> Iterator[Definition]:
         for match, following in zip(heads, [*heads[1:], None]):
             body = text[match.start() : following.start() if following else len(text)]
             own = {name: f"{module}.{name}" for name in names}
-            yield Definition(match[1] or match[2], module, body, {**uses, **own})
+            yield Definition(match[1] or match[2], module, body, {name: defined_at(key, given) for name, key in {**uses, **own}.items()})
 
 
 def named_in(text: str, uses: dict[str, str]) -> list[str]:
     """What the names of a text stand for, in their order."""
     return list(dict.fromkeys(uses[word] for word in NAME.findall(text) if word in uses))
+
+
+def defined_at(key: str, given: dict[str, str]) -> str:
+    """Where a name that is passed on is defined."""
+    while key in given:
+        key = given[key]
+    return key
 
 
 def contract(path: Path, function: str) -> tuple[str, dict[str, str]]:
@@ -100,7 +118,8 @@ def main(words: list[str]) -> int:
     crate, _, file = asked.file.partition("/")
     known = {it.key: it for it in definitions(TOP / "crates")}
     head, uses = contract(TOP / "crates" / crate / "src" / file, asked.function)
-    met = reached(named_in(head, uses), known)
+    given = passed_on(TOP / "crates")
+    met = reached([defined_at(key, given) for key in named_in(head, uses)], known)
     if asked.list:
         for it in met:
             print(f"{it.module.removeprefix('Rattle.').replace('.specs.', '/')} {it.name}")
