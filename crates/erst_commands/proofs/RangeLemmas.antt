@@ -7,7 +7,7 @@ use Rattle.base_model.specs.Bytes.{part, little, number_at, put_at}
 use Rattle.base_model.proofs.BytesLemmas.{length-put_at, part-before, SameOutside-put_at}
 use Rattle.cper_frame.specs.declared.error.FrameError.{FrameError}
 use Rattle.cper_frame.specs.declared.error.FrameError.TheVariants.{Need, Start, End, Length, Section, Limit}
-use Rattle.cper_frame.specs.Reading.{signature, section_count, record_length, misplaced, checked}
+use Rattle.cper_frame.specs.Reading.{misplaced, checked}
 use Rattle.cper_frame.specs.Grammar.{bodies_from}
 use Rattle.erst_client.specs.Commands.{write_refusal, frame_refusal}
 use Rattle.erst_client.proofs.RefusalLemmas.{length_fits}
@@ -17,6 +17,7 @@ use Rattle.erst_machine.specs.declared.areas.Location.TheVariants.{Inside, Beyon
 use Rattle.erst_machine.specs.Areas.{memory_location, first_location, memory_areas}
 use Rattle.erst_commands.specs.Changes.{HoldsRecord}
 use Rattle.erst_commands.specs.Writes.{marked, id_of}
+use Rattle.cper_frame.proofs.Terms.{signature, section_count, record_length}
 
 -- n bytes of the log range, from its start, from the record's length, and from its mark on
 location_of_tests : (in_range all : Bool) (at place limit : ℕ) → in_range ≡ true → all ≡ true
