@@ -9,7 +9,7 @@ use Rattle.cper_frame.specs.declared.error.FrameError.{FrameError}
 use Rattle.cper_frame.specs.declared.error.FrameError.TheVariants.{Need, Start, End, Length, Section, Limit}
 use Rattle.cper_frame.specs.Reading.{misplaced, checked}
 use Rattle.cper_frame.specs.Grammar.{bodies_from}
-use Rattle.erst_client.specs.Commands.{write_refusal, frame_refusal}
+use Rattle.erst_client.specs.Commands.{write_refusal}
 use Rattle.erst_client.proofs.RefusalLemmas.{length_fits}
 use Rattle.erst_machine.specs.declared.areas.Area.TheVariants.{Scratch, LogRange}
 use Rattle.erst_machine.specs.declared.areas.Location.{Location}
@@ -18,6 +18,7 @@ use Rattle.erst_machine.specs.Areas.{memory_location, first_location, memory_are
 use Rattle.erst_commands.specs.Changes.{HoldsRecord}
 use Rattle.erst_commands.specs.Writes.{marked, id_of}
 use Rattle.cper_frame.proofs.Terms.{signature, section_count, record_length}
+use Rattle.erst_client.proofs.Terms.{frame_refusal}
 
 -- n bytes of the log range, from its start, from the record's length, and from its mark on
 location_of_tests : (in_range all : Bool) (at place limit : ℕ) → in_range ≡ true → all ≡ true
