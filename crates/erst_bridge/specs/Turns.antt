@@ -12,7 +12,8 @@ use Rattle.erst_bridge.specs.Bridges.{BridgeState, station_rules, Asker, asker_o
 -- a turn of a bridge over the machine
 abbrev pub BridgesMachine : Type 0 → ClientState → ℕ → MachineState → BridgeState → BridgeEvent → BridgeState → ℕ → MachineState → Type 0
 BridgesMachine tells client budget old bridge event next left new =
-    Bridges (station_rules {S = MachineState} {W = MachineState} (λ state. state) (Allows tells) (Turns Reader) (λ state. state.handover.last)) (asker_of client budget) old bridge event
+    Bridges (station_rules {S = MachineState} {W = MachineState} (λ state. state) (Allows tells) (Turns Reader) (λ state. state.handover.last))
+    (asker_of client budget) old bridge event
     (record { bridge = next; left = left; station = new })
 
 -- a turn of either side, with what it did

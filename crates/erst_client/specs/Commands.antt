@@ -68,18 +68,22 @@ abbrev pub copied : Result (Unit {0}) ClientError → ℕ → Result ℕ ClientE
 copied (Ok done) len = Ok len
 copied (Err error) len = Err error
 
--- a read, in which one access reads the record's length, the four bytes at 20: its answer, what the buffer holds then, the steps that are left and the space afterwards
+-- a read, in which one access reads the record's length, the four bytes at 20: its answer, what the buffer holds then, the steps that
+-- are left and the space afterwards
 pub data Reads {W : Type 0} (allows : W → Call → W → Type 0) (client : ClientState) (id : ℕ) (out : List ℕ) (budget : ℕ) (old : W) : Result ℕ ClientError → List ℕ → ℕ → W → Type 0 where
   IsNotRead : (error : ClientError) (left : ℕ) (last : W) → Sequence allows client.table.entries client.timings (read_requests id) budget old (Err error) left last →
       Reads allows client id out budget old (Err error) out left last
   HasNoLength : (left : ℕ) (mid : W) (field : List ℕ) (fault : SpaceFault) (last : W) → Sequence allows client.table.entries client.timings (read_requests id) budget old (Ok tt) left mid →
-      allows mid (ReadBytes (address_in client.address 20) (0 ∷ 0 ∷ 0 ∷ 0 ∷ []) field (Err fault)) last → Reads allows client id out budget old (Err (Range fault)) out left last
+      allows mid (ReadBytes (address_in client.address 20) (0 ∷ 0 ∷ 0 ∷ 0 ∷ []) field (Err fault)) last →
+      Reads allows client id out budget old (Err (Range fault)) out left last
   IsNotCopied : (left : ℕ) (mid : W) (field : List ℕ) (error : ClientError) (last : W) → Sequence allows client.table.entries client.timings (read_requests id) budget old (Ok tt) left mid →
-      allows mid (ReadBytes (address_in client.address 20) (0 ∷ 0 ∷ 0 ∷ 0 ∷ []) field (Ok tt)) last → copy_refusal (number_at field 0 4) client.range (length out) ≡ Some error →
+      allows mid (ReadBytes (address_in client.address 20) (0 ∷ 0 ∷ 0 ∷ 0 ∷ []) field (Ok tt)) last →
+      copy_refusal (number_at field 0 4) client.range (length out) ≡ Some error →
       Reads allows client id out budget old (Err error) out left last
   IsCopied : (left : ℕ) (mid : W) (field : List ℕ) (next : W) (whole : List ℕ) (answer : Result (Unit {0}) ClientError) (last : W) →
       Sequence allows client.table.entries client.timings (read_requests id) budget old (Ok tt) left mid →
-      allows mid (ReadBytes (address_in client.address 20) (0 ∷ 0 ∷ 0 ∷ 0 ∷ []) field (Ok tt)) next → copy_refusal (number_at field 0 4) client.range (length out) ≡ None →
+      allows mid (ReadBytes (address_in client.address 20) (0 ∷ 0 ∷ 0 ∷ 0 ∷ []) field (Ok tt)) next →
+      copy_refusal (number_at field 0 4) client.range (length out) ≡ None →
       CopiesOut allows client.address (take (number_at field 0 4) out) whole next answer last →
       Reads allows client id out budget old (copied answer (number_at field 0 4)) (whole ++ drop (number_at field 0 4) out) left last
 

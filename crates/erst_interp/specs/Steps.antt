@@ -74,7 +74,8 @@ pub data Halt {W : Type 0} (allows : W → Call → W → Type 0) (task : Task) 
   Outside : (to : ℕ) → HasWork task (GoTo to) → task.len ≤ to → Halt allows task paid old (GotoOutside task.at.place to) paid old
   IsRefused : (fault : SpaceFault) (new : W) → Refusal allows task old fault new → Halt allows task paid old (Space task.at.place fault) paid new
   TooLong : (register : Register) (x : ℕ) (new : W) → HasWork task MoveBytes → checked task.entry.region ≡ Ok register →
-      FieldRead allows register task.entry.mask old (Ok x) new → 65536 < task.at.var2 → Halt allows task paid old (MoveTooLong task.at.place task.at.var2) paid new
+      FieldRead allows register task.entry.mask old (Ok x) new → 65536 < task.at.var2 →
+      Halt allows task paid old (MoveTooLong task.at.place task.at.var2) paid new
   Unpaid : (register : Register) (x : ℕ) (new : W) → HasWork task MoveBytes → checked task.entry.region ≡ Ok register →
       FieldRead allows register task.entry.mask old (Ok x) new → task.at.var2 ≤ 65536 → paid < blocks task.at.var2 → Halt allows task paid old Budget 0 new
   NotCopied : (register : Register) (x : ℕ) (fault : SpaceFault) (mid new : W) → HasWork task MoveBytes → checked task.entry.region ≡ Ok register →
