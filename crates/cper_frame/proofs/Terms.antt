@@ -1,5 +1,5 @@
 -- The fields of a header, and cases of a verdict, as proofs name them.
-use Rattle.std.specs.Prelude.{ℕ, ◌-◌, codes, List, ◌+◌, ◌++◌, Option, Some, None, Result, Err, Ok, []}
+use Rattle.std.specs.Prelude.{ℕ, codes, List, ◌++◌, Option, Some, None, Result, Err, Ok, []}
 use Rattle.base_model.specs.Bytes.{little, number_at, part}
 use Rattle.cper_frame.specs.Grammar.{SectionValue, RecordValue}
 use Rattle.cper_frame.specs.Reading.{section_head_at, checked, record_of}

@@ -1,5 +1,5 @@
 -- Lists that proofs name.
-use Rattle.std.specs.Prelude.{List, [], ◌∷◌, codes, ◌≡◌, ℕ, ◌<◌, slice_index}
+use Rattle.std.specs.Prelude.{List, [], ◌∷◌, ◌≡◌, ℕ, ◌<◌, slice_index}
 use Rattle.erst_entries.specs.declared.instructions.Instruction.{Instruction}
 use Rattle.erst_entries.specs.declared.instructions.Instruction.TheVariants.{ReadRegister, ReadRegisterValue, WriteRegister, WriteRegisterValue, Noop, LoadVar1, LoadVar2, StoreVar1, Add, Subtract, AddValue, SubtractValue, Stall, StallWhileTrue, SkipNextIfTrue, Goto, SetSourceBase, SetTargetBase, MoveData}
 use Rattle.erst_entries.specs.declared.entries.Entry.{Entry}

@@ -1,5 +1,5 @@
 -- Parts of a MOVE_DATA, as proofs name them.
-use Rattle.std.specs.Prelude.{ℕ, ◌-◌, ◌+◌, ◌%◌, ◌^◌, Result, if◌then◌else◌, Bool, true}
+use Rattle.std.specs.Prelude.{ℕ, ◌+◌, ◌%◌, ◌^◌, Result, if◌then◌else◌, Bool, true}
 use Rattle.apei_space.specs.declared.faults.SpaceFault.{SpaceFault}
 use Rattle.apei_space.specs.Calls.{Call, Copy}
 use Rattle.erst_interp.specs.declared.configurations.Configuration.{Configuration}
