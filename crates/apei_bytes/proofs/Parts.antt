@@ -1,8 +1,9 @@
 -- Fields at their places in bytes.
 use Rattle.std.proofs.Common.{◌≡◌, ℕ, suc, ◌+◌, ◌-◌, ◌<◌, ◌≤◌, ◌^◌, List, [], ◌∷◌, ◌++◌, length, take, drop, map, get_or, refl, sym, ap, ◌∙◌, arith, drop-cons, zero-add}
 use Rattle.std.proofs.lemmas.List.{drop-drop, drop_more, take_at, take_all, drop_at, take-append-drop}
-use Rattle.base_model.specs.Bytes.{part, number_at, little, joined, cut, total, spelled}
+use Rattle.base_model.specs.Bytes.{part, number_at, little, joined, spelled}
 use Rattle.base_model.proofs.BytesLemmas.{part-append, part-append_left, part-part, cut-joined, little-spelled}
+use Rattle.base_model.proofs.Terms.{cut, total}
 
 -- what a range of a slice holds
 pub between-part : (bytes : List ℕ) (at n : ℕ) → take (at + n - at) (drop at bytes) ≡ part bytes at n

@@ -1,9 +1,10 @@
 -- Puts, one after another.
 use Rattle.std.proofs.Common.{◌≡◌, ℕ, ◌+◌, ◌-◌, ◌<◌, ◌≤◌, List, [], ◌∷◌, ◌++◌, length, take, drop, map, refl, sym, ap, subst, ◌∙◌, arith, append_assoc, length-append, add-zero}
 use Rattle.std.proofs.lemmas.List.{append-nil, drop-drop, take_at, drop_at, length-take, take-append-drop}
-use Rattle.base_model.specs.Bytes.{part, put_at, spelled, joined, total, SameOutside}
+use Rattle.base_model.specs.Bytes.{part, put_at, spelled, joined, SameOutside}
 use Rattle.base_model.proofs.BytesLemmas.{length-spelled, length-put_at, length-joined, part-put_at, SameOutside-put_at}
 use Rattle.apei_bytes.specs.Writing.{Wrote}
+use Rattle.base_model.proofs.Terms.{total}
 use borrow.Rule.Slice.PartMut.{put_mid}
 
 -- a write to a range of a slice

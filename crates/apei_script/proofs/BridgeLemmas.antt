@@ -22,14 +22,14 @@ use Rattle.erst_commands.specs.OwnPrograms.{OwnProgramsRun}
 use Rattle.erst_bridge.specs.declared.events.BridgeEvent.{BridgeEvent}
 use Rattle.erst_bridge.specs.declared.events.BridgeEvent.TheVariants.{Line as ByReader, Stored as IsStored, Kept, Out}
 use Rattle.erst_bridge.specs.Bridges.{BridgeState, Off, TurnsReader, Stores, Keeps, RunsOut}
-use Rattle.erst_bridge.specs.Turns.{last_of, BridgesMachine, Turn, OfFirmware, OfBridge, Step, IsTurn, AreTurns}
+use Rattle.erst_bridge.specs.Turns.{BridgesMachine, Turn, OfFirmware, OfBridge, Step, IsTurn, AreTurns}
 use Rattle.erst_bridge.specs.Shown.{ShowsTurns, after_turn}
 use Rattle.erst_bridge.proofs.TrailLemmas.{turn_goes_on}
 use Rattle.erst_bridge.proofs.ShownLemmas.{turns_show}
 use Rattle.erst_bridge.proofs.PrefixLemmas.{turns_show_prefix}
 use Rattle.erst_bridge.specs.declared.made.SideTurn.{SideTurn}
 use Rattle.erst_bridge.specs.declared.made.MadeTurn.{MadeTurn}
-use Rattle.erst_bridge.specs.Made.{turn_of, told_turn, side_in, sides_in, made_by, AreCounted}
+use Rattle.erst_bridge.specs.Made.{turn_of, side_in, sides_in, made_by, AreCounted}
 use Rattle.erst_bridge.proofs.TurnsLemmas.{told_again, sides_more, made_more, counted_more, turns_more}
 use Rattle.script_text.specs.ScriptGrammar.{Line, turns}
 use Rattle.script_lines.specs.Streams.{stream_of}
@@ -45,6 +45,7 @@ use Rattle.apei_script.proofs.PlayLemmas.{quiet_with, shows_none, other_bridge}
 use Rattle.apei_script.proofs.KeptTurns.{blocks_kept}
 use Rattle.apei_script.proofs.MappedTurns.{turns_mapped, turns_end}
 use Rattle.apei_notify.proofs.ToldLemmas.{told_none, told_then}
+use Rattle.erst_bridge.proofs.Terms.{told_turn, last_of}
 
 -- What power lost shows
 

@@ -41,7 +41,7 @@ use Rattle.erst_commands.proofs.OneLemmas.{one_list}
 use Rattle.record_model.specs.Records.{is_reserved}
 use Rattle.ghes_ack.specs.Machine.{Situation, is_idle}
 use Rattle.erst_bridge.specs.Bridges.{BridgeState, Off, Awaits}
-use Rattle.erst_bridge.specs.Turns.{last_of, Turn, Step, AreTurns}
+use Rattle.erst_bridge.specs.Turns.{Turn, Step, AreTurns}
 use Rattle.erst_bridge.specs.Made.{sides_in}
 use Rattle.erst_bridge.specs.EquivalentSteps.{StepOutline, step_outline, EquivalentSteps}
 use Rattle.script_text.specs.TableWords.{words_of_erst}
@@ -62,6 +62,7 @@ use Rattle.apei_script.proofs.TurnsAlike.{turned_alike}
 use Rattle.apei_script.proofs.LineKinds.{restarted, Left, AskedBy, HappenedBy, words_of_given, other_after, Given, NoTable, Tried, ByItsClient, ByItself, ByOneEvent, ByBridgeTurns, Entered, TurnedOn, NotOn, PlaysOther, PlaysAs, PlaysBy, plays_by}
 use Rattle.apei_script.proofs.OneEvent.{words_told, asks_once, same_bytes, once}
 use Rattle.apei_script.proofs.BridgeLemmas.{blocks_in, block_replies}
+use Rattle.erst_bridge.proofs.Terms.{last_of}
 
 abbrev faults_of : MachineState → ℕ
 faults_of state = state.device.store.flash.faults

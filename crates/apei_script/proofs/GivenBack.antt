@@ -21,8 +21,8 @@ use Rattle.erst_bridge.specs.Bridges.{BridgeState, Off, Awaits, Holds, Releases,
 use Rattle.erst_bridge.specs.InStep.{GivesBack, IsInOrder}
 use Rattle.erst_bridge.proofs.InStepLemmas.{reading_cases}
 use Rattle.erst_bridge.proofs.TurnLemmas.{reader_cases}
-use Rattle.erst_bridge.specs.Turns.{last_of, BridgesMachine, Turn, OfFirmware, OfBridge, Step, IsTurn, AreTurns}
-use Rattle.erst_bridge.specs.MachinesInStep.{StandsInStep, KeepsOrder}
+use Rattle.erst_bridge.specs.Turns.{BridgesMachine, Turn, OfFirmware, OfBridge, Step, IsTurn, AreTurns}
+use Rattle.erst_bridge.specs.MachinesInStep.{StandsInStep}
 use Rattle.erst_bridge.proofs.HandoverLemmas.{firmware_same, last_same}
 use Rattle.erst_bridge.proofs.MachinesInStepLemmas.{handover_after, turn_in_step}
 use Rattle.script_text.specs.ScriptGrammar.{Line}
@@ -36,6 +36,7 @@ use Rattle.apei_script.specs.History.{Played, heard_after, Follows}
 use Rattle.apei_script.specs.Orders.{IsInStep, stored_behind, GiveStoredBack, AllGiveStoredBack}
 use Rattle.apei_script.proofs.OneEvent.{IsQuiet, NeedsNoBridge, once}
 use Rattle.apei_script.proofs.OrderLemmas.{line_order}
+use Rattle.erst_bridge.proofs.Terms.{KeepsOrder, last_of}
 
 -- the block that was stored last, behind a turn
 abbrev stored_by : Option (List ℕ) → BridgeState → Turn → Option (List ℕ)

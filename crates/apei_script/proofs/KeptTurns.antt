@@ -12,13 +12,14 @@ use Rattle.erst_commands.specs.OwnPrograms.{OwnProgramsRun}
 use Rattle.erst_bridge.specs.declared.events.BridgeEvent.TheVariants.{Line as ByReader, Stored as IsStored, Kept, Out}
 use Rattle.erst_bridge.specs.Bridges.{BridgeState, Holds, TurnsReader, Stores, Keeps, RunsOut}
 use Rattle.erst_bridge.specs.Turns.{Turn, OfFirmware, OfBridge, Step, IsTurn, AreTurns}
-use Rattle.erst_bridge.specs.Shown.{stored_record, ShowsTurns, IsStoredAs, after_turn}
+use Rattle.erst_bridge.specs.Shown.{ShowsTurns, IsStoredAs, after_turn}
 use Rattle.erst_bridge.proofs.TrailLemmas.{turn_keeps, turn_goes_on, own_on}
 use Rattle.erst_bridge.proofs.CrashLemmas.{turn_records}
 use Rattle.erst_bridge.proofs.KeptRecordLemmas.{other_stays}
 use Rattle.erst_bridge.proofs.ShownLemmas.{one_of, IsBeyond, turn_beyond, stored_turn}
 use Rattle.erst_bridge.specs.Prefixes.{next_id}
 use Rattle.apei_script.specs.Bridged.{EachTurn, KeepsBlocks}
+use Rattle.erst_bridge.proofs.Terms.{stored_record}
 
 -- a turn that does not write an identifier
 abbrev SparesTurn : ℕ → BridgeState → Turn → Type 0

@@ -7,12 +7,12 @@ use Rattle.ghes_ack.specs.declared.events.Event.TheVariants.{Took}
 use Rattle.ghes_ack.specs.Machine.{Machine as HandoverMachine, is_idle}
 use Rattle.erst_machine.specs.MachineState.{MachineState, records_of, told_of}
 use Rattle.erst_machine.specs.Shown.{shown_by, changes_of}
-use Rattle.erst_commands.specs.Writes.{WriteAnswered}
+use Rattle.erst_commands.specs.Writes.{WriteAnswered, marked}
 use Rattle.erst_bridge.specs.declared.events.BridgeEvent.TheVariants.{Line as ByReader, Stored, Kept, Out}
 use Rattle.erst_bridge.specs.BridgedRecord.{bridged}
 use Rattle.erst_bridge.specs.Bridges.{BridgeState, Off, Awaits, Holds}
-use Rattle.erst_bridge.specs.Turns.{last_of, Turn, OfFirmware, OfBridge, Step, AreTurns}
-use Rattle.erst_bridge.specs.Shown.{stored_record, ShowsTurns, IsStoredAs}
+use Rattle.erst_bridge.specs.Turns.{Turn, OfFirmware, OfBridge, Step, AreTurns}
+use Rattle.erst_bridge.specs.Shown.{ShowsTurns, IsStoredAs}
 use Rattle.erst_bridge.specs.MachinesInStep.{StandsInStep}
 use Rattle.erst_bridge.specs.Prefixes.{HasPrefix, bytes_in}
 use Rattle.erst_bridge.specs.declared.made.MadeTurn.{MadeTurn}
@@ -64,7 +64,7 @@ block_of turn last = []
 -- the replies to turns: a block's line, written when it is taken, and the line of all turns behind the last of them
 abbrev pub replies_of : ℕ → List Step → List Reply
 replies_of changes steps =
-    flat_map (λ (step : Step). said_at (changes_in step.machine) (map words_of_block (block_of step.turn (last_of step.machine)))) steps
+    flat_map (λ (step : Step). said_at (changes_in step.machine) (map words_of_block (block_of step.turn step.machine.handover.last))) steps
     ++ at_step changes (words_of_steps steps) ∷ []
 
 -- A line of the bridge: its replies, the blocks of which the listeners are told, the turns that were made, and the bridge and the machine
@@ -77,7 +77,7 @@ pub data ByBridge (tells : Type 0) (old : PlayerState) : Line → List Reply →
   BridgesTurns : (letters : List ℕ) (steps : List Step) (next : BridgeState) (machine : MachineState) → (old.bridge ≡ Off → ⊥)
       → AreTurns tells old.own (budget_of old) old.bridge old.machine steps next machine → sides_in steps ≡ map side_of letters → (tells → AreCounted steps)
       → ByBridge tells old (turns letters) (replies_of (changes_in machine) steps)
-      (flat_map (λ (step : Step). block_of step.turn (last_of step.machine)) steps) steps next machine
+      (flat_map (λ (step : Step). block_of step.turn step.machine.handover.last) steps) steps next machine
 
 -- something is so of each of these turns, by the bridge and the machine before it and by what it left
 abbrev pub EachTurn : (BridgeState → MachineState → Step → Type 0) → BridgeState → MachineState → List Step → Type 0
@@ -89,7 +89,7 @@ EachTurn IsSo state old (step ∷ rest) = IsSo state old step × EachTurn IsSo s
 abbrev pub KeepsBlocks : (ℕ → Type 0) → ℕ → BridgeState → MachineState → List Step → Records → Type 0
 KeepsBlocks spared s state old steps shown = EachTurn (λ now before step. elim step.turn [
   | OfBridge (Stored id) ↦
-      (block : List ℕ) × (now ≡ Holds id block) × (spared id → changes_of step.machine ≤ s → IsStoredAs id (stored_record block id) shown)
+      (block : List ℕ) × (now ≡ Holds id block) × (spared id → changes_of step.machine ≤ s → IsStoredAs id (marked (bridged block id)) shown)
   | other ↦ Unit {0}
 ]) state old steps
 

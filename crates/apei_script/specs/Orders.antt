@@ -5,7 +5,7 @@ use Rattle.erst_machine.specs.MachineState.{MachineState}
 use Rattle.erst_bridge.specs.declared.events.BridgeEvent.TheVariants.{Line as ByReader, Stored}
 use Rattle.erst_bridge.specs.Bridges.{BridgeState, Off, Holds}
 use Rattle.erst_bridge.specs.InStep.{GivesBack}
-use Rattle.erst_bridge.specs.Turns.{last_of, OfBridge, Step}
+use Rattle.erst_bridge.specs.Turns.{OfBridge, Step}
 use Rattle.erst_bridge.specs.MachinesInStep.{StandsInStep, KeepOrder}
 use Rattle.apei_script.specs.Players.{PlayerState}
 use Rattle.apei_script.specs.History.{Played}
@@ -35,7 +35,7 @@ stored_behind last state (step ∷ rest) =
 abbrev pub GiveStoredBack : Option (List ℕ) → BridgeState → MachineState → List Step → Type 0
 GiveStoredBack last state old [] = Unit {0}
 GiveStoredBack last state old (step ∷ rest) =
-    elim step.turn [ OfBridge (ByReader event) ↦ GivesBack event → last ≡ Some (last_of old) | other ↦ Unit {0} ]
+    elim step.turn [ OfBridge (ByReader event) ↦ GivesBack event → last ≡ Some old.handover.last | other ↦ Unit {0} ]
     × GiveStoredBack (stored_behind last state (step ∷ [])) step.bridge step.machine rest
 
 -- so is each such turn of these lines while the bridge is on

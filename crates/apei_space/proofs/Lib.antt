@@ -1,3 +1,4 @@
+pub mod Terms
 pub mod AccessLemmas
 mod BytePlaces
 pub mod Locations

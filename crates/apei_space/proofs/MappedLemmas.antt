@@ -5,8 +5,9 @@ use Rattle.apei_tables.specs.declared.registers.Place.{Place}
 use Rattle.apei_tables.specs.declared.registers.Place.TheVariants.{Memory, Io}
 use Rattle.apei_space.specs.declared.windows.Window.{Window}
 use Rattle.apei_space.specs.Windows.{address_of, room_in, room_from, room, location, IsApart, IsApartFrom, AreApart}
-use Rattle.apei_space.specs.RamState.{within, found}
+use Rattle.apei_space.specs.RamState.{found}
 use Rattle.apei_space.specs.Mapped.{Holds, IsMapped, further, FindsBytes}
+use Rattle.apei_space.proofs.Terms.{within}
 
 -- n bytes from a base on end at a place
 abbrev EndsAt : Place → ℕ → Place → Type 0

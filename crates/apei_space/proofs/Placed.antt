@@ -6,10 +6,11 @@ use Rattle.apei_tables.specs.declared.registers.Place.{Place}
 use Rattle.apei_tables.specs.declared.registers.Place.TheVariants.{Memory, Io}
 use Rattle.apei_space.specs.declared.windows.Window.{Window}
 use Rattle.apei_space.specs.Windows.{address_of, room_in, room_from, room, location, total, IsApart, IsApartFrom, AreApart}
-use Rattle.apei_space.specs.RamState.{within, found, refused, located}
+use Rattle.apei_space.specs.RamState.{found, refused, located}
 use Rattle.apei_space.specs.Mapped.{Holds, IsMapped, AreMapped, AreDisjoint, further, FindsBytes}
 use Rattle.apei_space.proofs.MappedLemmas.{finds_bytes, room_in-some, held}
 use Rattle.apei_space.proofs.Locations.{location_fits}
+use Rattle.apei_space.proofs.Terms.{within}
 
 -- two windows that are apart hold no byte together
 not_both : (p : Place) (n : ℕ) (q : Place) (m : ℕ) (at : Place) → IsApart p n q m → Holds p n at → Holds q m at → ⊥

@@ -34,18 +34,14 @@ keys len = min ((len - 1) / 2 ^ shift len) 63 + 1
 abbrev pub window_noted : ℕ → ℕ → ℕ → List Guess → List Guess
 window_noted address len number slots = noted number (address / 2 ^ shift len) (keys len) slots
 
-abbrev pub is_noted : Bool → Bool → Bool
-is_noted true is_short = is_short
-is_noted false is_short = not is_short
-
-abbrev pub noted_if : Bool → Stretch → ℕ → List Guess → List Guess
-noted_if is_short stretch number slots =
-    if is_noted is_short (nat_le stretch.window.len 512) then window_noted (address_of stretch.window.place) stretch.window.len number slots else slots
-
 -- the short windows or the others, each under its number
 abbrev pub all_noted : Bool → List Stretch → ℕ → List Guess → List Guess
 all_noted is_short [] number slots = slots
-all_noted is_short (stretch ∷ stretches) number slots = all_noted is_short stretches (number + 1) (noted_if is_short stretch number slots)
+all_noted is_short (stretch ∷ stretches) number slots =
+    all_noted is_short stretches (number + 1) (
+    if (if is_short then nat_le stretch.window.len 512 else not (nat_le stretch.window.len 512))
+    then window_noted (address_of stretch.window.place) stretch.window.len number slots
+    else slots)
 
 -- all windows, the short ones last
 abbrev pub guesses_at : List Stretch → List Guess

@@ -1,5 +1,5 @@
 -- Plain memory: its windows, the bytes that they hold, and how long it waited.
-use Rattle.std.specs.Prelude.{◌≡◌, ℕ, ◌+◌, ◌-◌, ◌/◌, ◌^◌, min, nat_le, ◌==◌, if◌then◌else◌, List, length, Option, Some, None, Result, Ok, Err, bit_and, bit_or}
+use Rattle.std.specs.Prelude.{◌≡◌, ℕ, ◌+◌, ◌-◌, ◌/◌, ◌^◌, min, nat_le, ◌==◌, if◌then◌else◌, List, length, Some, None, Result, Ok, Err, bit_and, bit_or}
 use Rattle.base_model.specs.Bytes.{part, number_at, spelled, put_at}
 use Rattle.apei_tables.specs.declared.registers.Place.{Place}
 use Rattle.apei_tables.specs.declared.registers.Place.TheVariants.{Memory}
@@ -20,13 +20,13 @@ pub record FillsWindows (ram : RamState) : Type 0 where
   pub apart : AreApart ram.windows
   pub as_long : total ram.windows ≡ length ram.bytes
 
--- where the first of n bytes from a place on stands, if one window holds them all; or the first address that none holds
-abbrev pub within : Option (ℕ × ℕ) → ℕ → ℕ → Result ℕ ℕ
-within None at n = Err at
-within (Some location) at n = if nat_le n location.1 then Ok location.0 else Err (at + location.1)
-
 abbrev pub found : List Window → Place → ℕ → Result ℕ ℕ
-found windows at n = if n == 0 then Ok 0 else within (location windows 0 at) (address_of at) n
+found windows at n =
+    if n == 0 then Ok 0
+    else elim (location windows 0 at) [
+      | None ↦ Err (address_of at)
+      | Some location ↦ if nat_le n location.1 then Ok location.0 else Err (address_of at + location.1)
+    ]
 
 abbrev pub refused : Result ℕ ℕ → Result ℕ SpaceFault
 refused (Ok start) = Ok start

@@ -37,20 +37,17 @@ pub record IsTabulated (windows : List Window) (table : List Stretch) : Type 0 w
   pub whole : IsPermutation (stretches_from 0 windows) table
   pub in_order : IsNonDecreasingBy (λ stretch. address_of stretch.window.place) table
 
--- where the byte of a place stands, if a stretch holds it
-abbrev pub location_in : Place → Option Stretch → Option (ℕ × ℕ)
-location_in at None = None
-location_in at (Some stretch) =
-    if room stretch.window at == 0 then None else Some (stretch.start + (stretch.window.len - room stretch.window at), room stretch.window at)
-
--- if that of a number does
+-- where the byte of a place stands, if the stretch of a number holds it
 abbrev pub location_numbered : List Stretch → ℕ → Place → Option (ℕ × ℕ)
-location_numbered table number at = location_in at (slice_get table number)
-
-abbrev pub or_else : Option (ℕ × ℕ) → Option (ℕ × ℕ) → Option (ℕ × ℕ)
-or_else (Some found) other = Some found
-or_else None other = other
+location_numbered table number at =
+    elim (slice_get table number) [
+      | None ↦ None
+      | Some stretch ↦
+          if room stretch.window at == 0 then None
+          else Some (stretch.start + (stretch.window.len - room stretch.window at), room stretch.window at)
+    ]
 
 -- if one of two does, the first one asked first
 abbrev pub location_guessed : List Stretch → Guess → Place → Option (ℕ × ℕ)
-location_guessed table guess at = or_else (location_numbered table guess.first at) (location_numbered table guess.second at)
+location_guessed table guess at =
+    elim (location_numbered table guess.first at) [ Some found ↦ Some found | None ↦ location_numbered table guess.second at ]

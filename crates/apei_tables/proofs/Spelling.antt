@@ -1,11 +1,12 @@
 -- A header is its 36 bytes.
 use Rattle.std.proofs.Common.{◌≡◌, ℕ, ◌+◌, ◌++◌, ◌<◌, ◌≤◌, ◌^◌, List, [], ◌∷◌, length, map, get_or, sum, refl, sym, ap, ◌∙◌, arith, append-nil}
 use Rattle.std.proofs.lemmas.List.Sums.{sum_by-append}
-use Rattle.base_model.specs.Bytes.{part, number_at, little, spelled, joined, total, AreBytes}
+use Rattle.base_model.specs.Bytes.{part, number_at, little, spelled, joined, AreBytes}
 use Rattle.base_model.proofs.BytesLemmas.{spelled-number_at, little-spelled, length-spelled, length-joined}
 use Rattle.apei_bytes.proofs.Parts.{parts, joined-parts, parts-joined, part-cons}
 use Rattle.apei_tables.specs.declared.headers.Header.{Header}
 use Rattle.apei_tables.specs.Layout.{spelling, HasSizes, IsHeader}
+use Rattle.base_model.proofs.Terms.{total}
 
 abbrev fields : Header → List (List ℕ)
 fields header =

@@ -3,7 +3,8 @@ use Rattle.std.proofs.Common.{◌≡◌, ℕ, zero, suc, ◌+◌, ◌-◌, ◌*�
 use Rattle.std.proofs.lemmas.List.{take-append-drop, length-take, take-append-le, take-take, take_at, drop_at, drop-append-le, drop-drop, drop-take, take_all}
 use Rattle.std.proofs.Math.Nat.{pow-suc}
 use Rattle.std.proofs.Math.Seq.{take-add}
-use Rattle.base_model.specs.Bytes.{part, little, number_at, spelled, put_at, SameOutside, AreBytes, joined, cut, total}
+use Rattle.base_model.specs.Bytes.{part, little, number_at, spelled, put_at, SameOutside, AreBytes, joined}
+use Rattle.base_model.proofs.Terms.{cut, total}
 
 -- there are n of them
 pub length-spelled : (n x : ℕ) → length (spelled n x) ≡ n

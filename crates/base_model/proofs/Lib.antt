@@ -1,3 +1,4 @@
+pub mod Terms
 pub mod BytesLemmas
 pub mod FaultLemmas
 pub mod CrashLemmas

@@ -42,13 +42,3 @@ AreBytes (byte ∷ bytes) = (byte < 256) × AreBytes bytes
 abbrev pub joined : List (List ℕ) → List ℕ
 joined [] = []
 joined (field ∷ fields) = field ++ joined fields
-
--- the fields of these sizes that a list begins with
-abbrev pub cut : List ℕ → List ℕ → List (List ℕ)
-cut [] bytes = []
-cut (size ∷ sizes) bytes = take size bytes ∷ cut sizes (drop size bytes)
-
--- how long fields of these sizes are together
-abbrev pub total : List ℕ → ℕ
-total [] = 0
-total (size ∷ sizes) = size + total sizes

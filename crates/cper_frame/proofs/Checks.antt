@@ -7,7 +7,8 @@ use Rattle.apei_bytes.proofs.Tests.{ok_if, ok_unless}
 use Rattle.cper_frame.specs.declared.error.FrameError.{FrameError}
 use Rattle.cper_frame.specs.declared.error.FrameError.TheVariants.{Need, Start, End, Length, Section, Limit}
 use Rattle.cper_frame.specs.Grammar.{bodies_from}
-use Rattle.cper_frame.specs.Reading.{signature, section_count, record_length, misplaced, checked}
+use Rattle.cper_frame.specs.Reading.{misplaced, checked}
+use Rattle.cper_frame.proofs.Terms.{signature, section_count, record_length}
 
 -- all checks of a record of at most limit bytes pass
 pub record Passed (limit : ℕ) (bytes : List ℕ) : Type 0 where

@@ -7,12 +7,13 @@ use Rattle.std.proofs.lemmas.List.Elements.{All-head, All-tail}
 use Rattle.base_model.specs.Bytes.{part, joined}
 use Rattle.base_model.proofs.BytesLemmas.{part-part, part-append_left}
 use Rattle.cper_frame.specs.Grammar.{SectionValue, RecordValue, header, descriptors, bodies_from, IsSectionOf, IsRecord}
-use Rattle.cper_frame.specs.Reading.{section_count, record_length, descriptor_at, section_at, sections_from, record_of, is_misplaced, misplaced_from, misplaced, checked}
+use Rattle.cper_frame.specs.Reading.{descriptor_at, section_at, sections_from, record_of, is_misplaced, misplaced_from, misplaced, checked}
 use Rattle.apei_bytes.proofs.Parts.{part-first, part-second}
 use Rattle.cper_frame.proofs.Checks.{Passed, passes}
 use Rattle.cper_frame.proofs.Laws.{descriptor, header_reads, descriptor_reads, length-header, length-descriptor}
 use Rattle.apei_bytes.proofs.Parts.{number_at-front}
 use Rattle.cper_frame.proofs.Sound.{misplaced-front}
+use Rattle.cper_frame.proofs.Terms.{section_count, record_length}
 
 -- how long so many descriptors are
 pub length-descriptors : (first : ℕ) (bytes : List ℕ) (sections : List SectionValue) → All (IsSectionOf first bytes) sections → length (descriptors sections) ≡ 72 * length sections

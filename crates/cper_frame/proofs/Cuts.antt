@@ -15,8 +15,8 @@ use Rattle.cper_frame.specs.declared.error.FrameError.TheVariants.{Need}
 use Rattle.cper_frame.specs.declared.fed.Fed.{Fed}
 use Rattle.cper_frame.specs.declared.pieces.Progress.TheVariants.{Took, Stopped}
 use Rattle.cper_frame.specs.Grammar.{RecordValue, IsRecord}
-use Rattle.cper_frame.specs.Reading.{record_length, checked, record_of}
-use Rattle.cper_frame.specs.Stream.{Reader, is_need, reader_holding, reader_failing, feed_result_by, feed_result_unless, feed_result, frame_by, frame_of, without_frame_by, without_frame, GetsOn, refusal, IsRecordWithin, Splits, Waits, Going, Refused}
+use Rattle.cper_frame.specs.Reading.{checked, record_of}
+use Rattle.cper_frame.specs.Stream.{Reader, is_need, reader_holding, reader_failing, feed_result_by, feed_result, frame_of, without_frame, GetsOn, refusal, IsRecordWithin, Splits, Waits, Going, Refused}
 use Rattle.cper_frame.specs.Pieces.{Stepped, Passed as PassedPiece}
 use Rattle.cper_frame.proofs.Checks.{Passed, passed, passes}
 use Rattle.apei_bytes.proofs.Parts.{number_at-front}
@@ -26,6 +26,7 @@ use Rattle.cper_frame.proofs.Streams.Missing.{of_header, of_record}
 use Rattle.cper_frame.proofs.Complete.{found_again}
 use Rattle.cper_frame.proofs.Readers.{Cases}
 use Rattle.cper_frame.proofs.Readers.Cases.{at_ok, at_need, at_err}
+use Rattle.cper_frame.proofs.Terms.{record_length, feed_result_unless, frame_by, without_frame_by}
 
 -- something is missing
 some_of : (limit : ℕ) (bytes : List ℕ) (w : ℕ) → Missing limit bytes w → 0 < w

@@ -1,12 +1,14 @@
 -- The grammar and the reading agree, both ways.
 use Rattle.std.proofs.Common.{◌≡◌, ℕ, ◌-◌, ◌<◌, ◌^◌, List, [], ◌∷◌, ◌++◌, length, map, get_or, refl, ap, ◌∙◌, arith}
 use Rattle.std.specs.Prelude.{codes}
-use Rattle.base_model.specs.Bytes.{part, number_at, little, spelled, joined, total}
+use Rattle.base_model.specs.Bytes.{part, number_at, little, spelled, joined}
 use Rattle.base_model.proofs.BytesLemmas.{length-joined}
 use Rattle.cper_frame.specs.declared.heads.RecordHead.{RecordHead}
 use Rattle.cper_frame.specs.Grammar.{SectionValue, header, descriptor_fields, IsRecordHead, IsSectionHead}
-use Rattle.cper_frame.specs.Reading.{signature, head_at, section_count, record_length, section_head_at}
+use Rattle.cper_frame.specs.Reading.{head_at, section_head_at}
 use Rattle.apei_bytes.proofs.Parts.{parts, parts_of, number_of}
+use Rattle.base_model.proofs.Terms.{total}
+use Rattle.cper_frame.proofs.Terms.{signature, section_count, record_length}
 
 -- how long the fields of a header and of a descriptor are
 abbrev pub header_sizes : List ℕ

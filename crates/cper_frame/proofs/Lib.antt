@@ -1,3 +1,4 @@
+pub mod Terms
 pub mod Checks
 pub mod Laws
 pub mod Sound

@@ -6,10 +6,11 @@ use Rattle.std.proofs.lemmas.List.Elements.{All-nil, All-cons}
 use Rattle.base_model.specs.Bytes.{part, number_at, spelled, joined, AreBytes}
 use Rattle.base_model.proofs.BytesLemmas.{spelled-number_at, number_at-lt, length-part, part-append, part-append_left, part-whole, AreBytes-part}
 use Rattle.cper_frame.specs.Grammar.{header, descriptors, bodies_from, IsRecordHead, IsSectionHead, IsSectionOf, IsRecord}
-use Rattle.cper_frame.specs.Reading.{signature, head_at, section_count, record_length, section_head_at, section_in, descriptor_at, section_at, sections_from, record_of, is_misplaced, misplaced_from, misplaced}
+use Rattle.cper_frame.specs.Reading.{head_at, section_head_at, descriptor_at, section_at, sections_from, record_of, is_misplaced, misplaced_from, misplaced}
 use Rattle.apei_bytes.proofs.Parts.{parts, joined-parts, number_at-front, part-append-drop}
 use Rattle.cper_frame.proofs.Checks.{Passed}
 use Rattle.cper_frame.proofs.Laws.{descriptor, header_sizes, descriptor_sizes}
+use Rattle.cper_frame.proofs.Terms.{signature, section_count, record_length, section_in}
 
 -- bytes that follow change no number and no test
 is_misplaced-front : (bytes more : List ℕ) (first last index : ℕ) → 128 + 72 * (index + 1) ≤ length bytes → is_misplaced (bytes ++ more) first last index ≡ is_misplaced bytes first last index

@@ -6,11 +6,12 @@ use Rattle.base_model.specs.Bytes.{number_at}
 use Rattle.cper_frame.specs.declared.error.FrameError.{FrameError}
 use Rattle.cper_frame.specs.declared.error.FrameError.TheVariants.{Need, Start, End, Length, Limit}
 use Rattle.cper_frame.specs.Grammar.{bodies_from}
-use Rattle.cper_frame.specs.Reading.{signature, section_count, record_length, misplaced, checked}
+use Rattle.cper_frame.specs.Reading.{misplaced, checked}
 use Rattle.cper_frame.specs.Stream.{is_need}
 use Rattle.cper_frame.proofs.Checks.{length_if_placed, head_verdict, passed, header_decides}
 use Rattle.apei_bytes.proofs.Parts.{number_at-front}
 use Rattle.cper_frame.proofs.Sound.{misplaced-front}
+use Rattle.cper_frame.proofs.Terms.{signature, section_count, record_length}
 
 -- whether more bytes could change the answer
 abbrev pub waits : Result ℕ FrameError → Bool

@@ -6,10 +6,11 @@ use Rattle.base_model.specs.Bytes.{part, number_at, AreBytes}
 use Rattle.cper_frame.specs.declared.heads.SectionHead.{SectionHead}
 use Rattle.cper_frame.specs.declared.error.FrameError.{FrameError}
 use Rattle.cper_frame.specs.Grammar.{SectionValue, RecordValue, bodies_from, IsRecord}
-use Rattle.cper_frame.specs.Reading.{head_at, section_count, record_length, section_head_at, descriptor_at, section_at, sections_from, record_of, is_misplaced, misplaced_from, checked, IsWhole}
+use Rattle.cper_frame.specs.Reading.{head_at, section_head_at, descriptor_at, section_at, sections_from, record_of, is_misplaced, misplaced_from, checked, IsWhole}
 use Rattle.cper_frame.proofs.Checks.{Passed, passed, passes}
 use Rattle.cper_frame.proofs.Sound.{none_unless, InPlace, in_place, none_is, length-sections_from, passed-front, is_record}
 use Rattle.cper_frame.proofs.Complete.{found_again, reads_again}
+use Rattle.cper_frame.proofs.Terms.{section_count, record_length}
 
 -- what the methods of a record need
 pub record Whole (bytes : List ℕ) : Type 0 where

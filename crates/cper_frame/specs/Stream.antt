@@ -23,17 +23,9 @@ is_need (Section index) = false
 is_need (Limit found) = false
 
 -- what is left of the record, where it isn't whole
-abbrev pub missing_of : FrameError → ℕ
-missing_of (Need more) = more
-missing_of Start = 0
-missing_of End = 0
-missing_of (Length found) = 0
-missing_of (Section index) = 0
-missing_of (Limit found) = 0
-
 abbrev pub missing_by : Result ℕ FrameError → ℕ
-missing_by (Ok len) = 0
-missing_by (Err error) = missing_of error
+missing_by (Err (Need more)) = more
+missing_by verdict = 0
 
 -- the reader with an error
 abbrev pub reader_failing : Reader → FrameError → Reader
@@ -50,13 +42,13 @@ feed_result_by reader piece (Err error) =
     if is_need error then (reader_holding reader (reader.held ++ piece), Ok (record { taken = length piece; whole = false }))
     else (reader_failing reader error, Err error)
 
-abbrev pub feed_result_unless : Reader → List ℕ → Option FrameError → Reader × Result Fed FrameError
-feed_result_unless reader piece None = feed_result_by reader piece (checked reader.limit (reader.held ++ piece))
-feed_result_unless reader piece (Some error) = (reader, Err error)
-
 -- what a piece does
 abbrev pub feed_result : Reader → List ℕ → Reader × Result Fed FrameError
-feed_result reader piece = feed_result_unless reader piece reader.failed
+feed_result reader piece =
+    elim reader.failed [
+      | None ↦ feed_result_by reader piece (checked reader.limit (reader.held ++ piece))
+      | Some error ↦ (reader, Err error)
+    ]
 
 -- what a reader makes of the first bytes of a piece, as many as are wanted or there
 abbrev pub fill_result_by : Reader → List ℕ → ℕ → Result ℕ FrameError → Reader × Result ℕ FrameError
@@ -78,20 +70,16 @@ pub record IsReader (limit : ℕ) (held : List ℕ) (capacity missing : ℕ) : T
   pub state : checked limit held ≡ cond (missing == 0) (Ok (length held)) (Err (Need missing))
 
 -- the record that is whole
-abbrev pub frame_by : List ℕ → Result ℕ FrameError → Option RecordValue
-frame_by held (Ok len) = Some (record_of held)
-frame_by held (Err error) = None
-
 abbrev pub frame_of : Reader → Option RecordValue
-frame_of reader = frame_by reader.held (checked reader.limit reader.held)
+frame_of reader = elim (checked reader.limit reader.held) [ Ok len ↦ Some (record_of reader.held) | Err error ↦ None ]
 
 -- without the record that is whole
-abbrev pub without_frame_by : Reader → Result ℕ FrameError → Reader
-without_frame_by reader (Ok len) = record { limit = reader.limit; held = []; failed = reader.failed }
-without_frame_by reader (Err error) = reader
-
 abbrev pub without_frame : Reader → Reader
-without_frame reader = without_frame_by reader (checked reader.limit reader.held)
+without_frame reader =
+    elim (checked reader.limit reader.held) [
+      | Ok len ↦ record { limit = reader.limit; held = []; failed = reader.failed }
+      | Err error ↦ reader
+    ]
 
 -- what a reader took of a piece gets a caller on: with no whole record at hand before it is some of the piece, where none is whole
 -- then it is all of it, and `whole` says which

@@ -12,7 +12,8 @@ use Rattle.erst_bridge.specs.declared.events.BridgeEvent.{BridgeEvent}
 use Rattle.erst_bridge.specs.declared.events.BridgeEvent.TheVariants.{Line, Stored, Kept, Out}
 use Rattle.erst_bridge.specs.BridgedRecord.{bridged}
 use Rattle.erst_bridge.specs.Bridges.{BridgeState, Off, Awaits, Holds, Releases, HoldsNone, after_reader, TurnsReader, Stores, Keeps, RunsOut}
-use Rattle.erst_bridge.specs.Turns.{last_of, BridgesMachine}
+use Rattle.erst_bridge.specs.Turns.{BridgesMachine}
+use Rattle.erst_bridge.proofs.Terms.{last_of}
 
 -- the answer of a turn: its event, and the bridge behind it
 abbrev Answer : Type 0

@@ -8,7 +8,7 @@ use Rattle.record_model.specs.RecordMap.{Refusal, Command}
 use Rattle.erst_client.specs.declared.errors.ClientError.{ClientError}
 use Rattle.erst_client.specs.declared.errors.ClientError.TheVariants.{Hardware, TooLong}
 use Rattle.erst_client.specs.declared.requests.Request.{Request}
-use Rattle.erst_client.specs.Commands.{ClientState, Writes, IsNoRecord as NotWritten, IsNotPut, IsAsked, frame_refusal, write_refusal}
+use Rattle.erst_client.specs.Commands.{ClientState, Writes, IsNoRecord as NotWritten, IsNotPut, IsAsked, write_refusal}
 use Rattle.erst_client.specs.Timings.{enough_steps}
 use Rattle.erst_client.proofs.RefusalLemmas.{whole_refused}
 use Rattle.erst_machine.specs.MachineState.{MachineState, IsMachine, reach_in}
@@ -27,6 +27,7 @@ use Rattle.erst_bridge.specs.Bridges.{BridgeState, Off, Awaits, Holds, Releases,
 use Rattle.erst_bridge.proofs.RecordLemmas.{whole, length-bridged}
 use Rattle.erst_bridge.specs.Turns.{BridgesMachine}
 use Rattle.erst_bridge.proofs.CrashLemmas.{own_write}
+use Rattle.erst_client.proofs.Terms.{frame_refusal}
 
 -- the client itself refuses the record exactly where it is longer than the log range
 bridged_refusal : (block : List ℕ) (id range : ℕ) → id < 2 ^ 64 → length block ≤ 4096

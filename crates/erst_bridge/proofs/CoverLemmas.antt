@@ -15,14 +15,15 @@ use Rattle.erst_bridge.specs.BridgedRecord.{bridged}
 use Rattle.erst_bridge.specs.Bridges.{BridgeState, Off, Awaits, Holds, Releases, HoldsNone, after_reader, TurnsReader, Stores, Keeps, RunsOut}
 use Rattle.erst_bridge.proofs.InStepLemmas.{reading_cases}
 use Rattle.erst_bridge.proofs.TurnLemmas.{reader_cases}
-use Rattle.erst_bridge.specs.Turns.{last_of, BridgesMachine, Turn, OfFirmware, OfBridge, Step, IsTurn, AreTurns}
+use Rattle.erst_bridge.specs.Turns.{BridgesMachine, Turn, OfFirmware, OfBridge, Step, IsTurn, AreTurns}
 use Rattle.erst_bridge.specs.MachinesInStep.{StandsInStep}
-use Rattle.erst_bridge.specs.Shown.{stored_record, IsStoredAs, IsCovered}
+use Rattle.erst_bridge.specs.Shown.{IsStoredAs, IsCovered}
 use Rattle.erst_bridge.proofs.TrailLemmas.{turn_keeps, own_on}
 use Rattle.erst_bridge.proofs.HandoverLemmas.{firmware_same, last_same}
 use Rattle.erst_bridge.proofs.MachinesInStepLemmas.{handover_after, turn_in_step}
 use Rattle.erst_bridge.proofs.CrashLemmas.{own_write}
 use Rattle.erst_bridge.proofs.KeptRecordLemmas.{answer_stores}
+use Rattle.erst_bridge.proofs.Terms.{last_of, stored_record}
 
 covered_same : (bridge : BridgeState) (m new : Machine) (stored now : Records) → last_taken new ≡ last_taken m → now ≡ stored → IsCovered bridge m stored → IsCovered bridge new now
 covered_same Off m new stored now last same covered = tt

@@ -25,8 +25,9 @@ use Rattle.erst_bridge.specs.declared.events.BridgeEvent.{BridgeEvent}
 use Rattle.erst_bridge.specs.BridgedRecord.{bridged}
 use Rattle.erst_bridge.specs.Bridges.{BridgeState, TurnsReader, Stores, Keeps, RunsOut}
 use Rattle.erst_bridge.specs.Turns.{BridgesMachine, Turn, OfFirmware, OfBridge, IsTurn}
-use Rattle.erst_bridge.specs.Shown.{after_write, after_turn}
+use Rattle.erst_bridge.specs.Shown.{after_turn}
 use Rattle.erst_bridge.proofs.TrailLemmas.{turn_goes_on}
+use Rattle.erst_bridge.proofs.Terms.{after_write}
 
 -- power lost on the way from one machine to another leaves the records, or as they are given
 abbrev LeavesEither : MachineState → Records → MachineState → Type 0

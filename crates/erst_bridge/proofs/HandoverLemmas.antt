@@ -10,7 +10,8 @@ use Rattle.ghes_ack.proofs.Terms.{offered}
 use Rattle.erst_bridge.specs.Bridges.{BridgeState, Off, Awaits, Holds, Releases, HoldsNone, after_reader}
 use Rattle.erst_bridge.specs.InStep.{IsInStep}
 use Rattle.erst_bridge.proofs.InStepLemmas.{reading_cases, not_taken}
-use Rattle.erst_bridge.specs.Prefixes.{next_id, to_come}
+use Rattle.erst_bridge.specs.Prefixes.{next_id}
+use Rattle.erst_bridge.proofs.Terms.{to_come}
 
 -- a turn of the firmware leaves the blocks, and these numbers of them
 pub record SameTaken (m new : Machine) : Type 0 where

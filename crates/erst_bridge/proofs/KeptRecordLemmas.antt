@@ -21,8 +21,9 @@ use Rattle.erst_commands.specs.Writes.{WriteAnswered, IsNoRecord, IsWritten, mar
 use Rattle.erst_commands.specs.OwnPrograms.{with_range}
 use Rattle.erst_bridge.specs.BridgedRecord.{bridged}
 use Rattle.erst_bridge.proofs.RecordLemmas.{name}
-use Rattle.erst_bridge.specs.Shown.{stored_record, after_write, IsStoredAs}
+use Rattle.erst_bridge.specs.Shown.{IsStoredAs}
 use Rattle.erst_bridge.specs.Prefixes.{bytes_in, with_blocks}
+use Rattle.erst_bridge.proofs.Terms.{after_write, stored_record}
 
 -- what one record more makes of what an identifier has
 get_put : (stored : Records) (n : ℕ) (record_now : List ℕ × ℕ) (q : ℕ) → get (insert stored n record_now) q ≡ (if nat_eq q n then Some record_now else get stored q)

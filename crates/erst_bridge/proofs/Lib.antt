@@ -1,3 +1,4 @@
+pub mod Terms
 pub mod RecordLemmas
 pub mod InStepLemmas
 pub mod TurnLemmas

@@ -14,9 +14,10 @@ use Rattle.erst_bridge.specs.BridgedRecord.{bridged}
 use Rattle.erst_bridge.specs.Bridges.{BridgeState, after_reader, TurnsReader, Stores, Keeps, RunsOut}
 use Rattle.erst_bridge.specs.InStep.{IsInStep, IsInOrder}
 use Rattle.erst_bridge.proofs.InStepLemmas.{stays, order}
-use Rattle.erst_bridge.specs.Turns.{last_of, BridgesMachine, Turn, OfFirmware, OfBridge, Step, IsTurn, AreTurns}
-use Rattle.erst_bridge.specs.MachinesInStep.{StandsInStep, KeepsOrder, KeepOrder}
+use Rattle.erst_bridge.specs.Turns.{BridgesMachine, Turn, OfFirmware, OfBridge, Step, IsTurn, AreTurns}
+use Rattle.erst_bridge.specs.MachinesInStep.{StandsInStep, KeepOrder}
 use Rattle.erst_bridge.proofs.HandoverLemmas.{firmware_in_step}
+use Rattle.erst_bridge.proofs.Terms.{KeepsOrder, last_of}
 
 -- the state of the handover machine behind a turn
 abbrev pub handover_after : Turn → Machine → Machine

@@ -19,16 +19,17 @@ use Rattle.erst_bridge.specs.declared.events.BridgeEvent.TheVariants.{Kept}
 use Rattle.erst_bridge.specs.BridgedRecord.{bridged}
 use Rattle.erst_bridge.specs.Bridges.{BridgeState, Off, Awaits, Holds, Releases, HoldsNone, after_reader, TurnsReader, Stores, Keeps, RunsOut}
 use Rattle.erst_bridge.proofs.TurnLemmas.{reader_cases}
-use Rattle.erst_bridge.specs.Turns.{last_of, BridgesMachine, Turn, OfFirmware, OfBridge, Step, IsTurn, AreTurns}
-use Rattle.erst_bridge.specs.Shown.{stored_record, after_write, after_turn, ShowsTurns}
+use Rattle.erst_bridge.specs.Turns.{BridgesMachine, Turn, OfFirmware, OfBridge, Step, IsTurn, AreTurns}
+use Rattle.erst_bridge.specs.Shown.{after_turn, ShowsTurns}
 use Rattle.erst_bridge.specs.MachinesInStep.{StandsInStep}
-use Rattle.erst_bridge.specs.Prefixes.{bytes_in, with_blocks, next_id, to_come, HasPrefix}
+use Rattle.erst_bridge.specs.Prefixes.{bytes_in, with_blocks, next_id, HasPrefix}
 use Rattle.erst_bridge.proofs.TrailLemmas.{turn_keeps, own_on}
 use Rattle.erst_bridge.proofs.HandoverLemmas.{SameToCome, firmware_come, reader_come}
 use Rattle.erst_bridge.proofs.MachinesInStepLemmas.{handover_after, turn_in_step}
 use Rattle.erst_bridge.proofs.CrashLemmas.{own_write, turn_records}
 use Rattle.erst_bridge.proofs.KeptRecordLemmas.{Contents, with_block, HasBytes, answer_bytes, write_either}
 use Rattle.erst_bridge.proofs.ShownLemmas.{one_of, turns_show}
+use Rattle.erst_bridge.proofs.Terms.{after_write, to_come, last_of, stored_record}
 
 -- the records are some contents; while a block is held they may have its record already, by a write that failed at its end
 abbrev pub Agrees : BridgeState → Contents → Records → Type 0

@@ -15,11 +15,12 @@ use Rattle.erst_bridge.specs.declared.events.BridgeEvent.TheVariants.{Stored}
 use Rattle.erst_bridge.specs.BridgedRecord.{bridged}
 use Rattle.erst_bridge.specs.Bridges.{BridgeState, Off, Awaits, Holds, Releases, HoldsNone, TurnsReader, Stores, Keeps, RunsOut}
 use Rattle.erst_bridge.proofs.TurnLemmas.{reader_cases}
-use Rattle.erst_bridge.specs.Turns.{last_of, BridgesMachine, Turn, OfFirmware, OfBridge, Step, IsTurn, AreTurns}
-use Rattle.erst_bridge.specs.Shown.{stored_record, after_turn, ShowsTurns, IsStoredAs}
+use Rattle.erst_bridge.specs.Turns.{BridgesMachine, Turn, OfFirmware, OfBridge, Step, IsTurn, AreTurns}
+use Rattle.erst_bridge.specs.Shown.{after_turn, ShowsTurns, IsStoredAs}
 use Rattle.erst_bridge.proofs.TrailLemmas.{turn_keeps, turn_goes_on, turns_go_on, own_on}
 use Rattle.erst_bridge.proofs.CrashLemmas.{own_write, turn_crash, turn_records}
 use Rattle.erst_bridge.proofs.KeptRecordLemmas.{other_stays, answer_stores}
+use Rattle.erst_bridge.proofs.Terms.{last_of, stored_record}
 
 pub one_of : (b : Bool) (P Q : Type 0) → MatchBool b P Q → P ⊎ Q
 one_of true P Q h = inl h

@@ -12,8 +12,9 @@ use Rattle.erst_bridge.specs.Bridges.{BridgeState}
 use Rattle.erst_bridge.specs.Turns.{BridgesMachine, Turn, OfFirmware, OfBridge, Step, IsTurn, AreTurns}
 use Rattle.erst_bridge.proofs.TrailLemmas.{turn_goes_on, turns_go_on}
 use Rattle.erst_bridge.specs.declared.made.MadeTurn.{MadeTurn}
-use Rattle.erst_bridge.specs.Made.{told_turn, side_in, sides_in, made_by}
+use Rattle.erst_bridge.specs.Made.{side_in, sides_in, made_by}
 use Rattle.erst_bridge.specs.EquivalentSteps.{StepOutline, step_outline, EquivalentSteps}
+use Rattle.erst_bridge.proofs.Terms.{told_turn}
 
 abbrev faults_of : MachineState → ℕ
 faults_of state = state.device.store.flash.faults

@@ -8,9 +8,10 @@ use Rattle.erst_bridge.specs.declared.events.BridgeEvent.{BridgeEvent}
 use Rattle.erst_bridge.specs.declared.events.BridgeEvent.TheVariants.{Line}
 use Rattle.erst_bridge.specs.Bridges.{BridgeState, Off, Awaits, Holds, Releases, HoldsNone, after_reader, TurnsReader, Stores, Keeps, RunsOut}
 use Rattle.erst_bridge.specs.InStep.{IsInOrder}
-use Rattle.erst_bridge.specs.Turns.{last_of, BridgesMachine, Turn, OfFirmware, OfBridge, Step, IsTurn, AreTurns}
-use Rattle.erst_bridge.specs.MachinesInStep.{KeepsOrder, KeepOrder}
+use Rattle.erst_bridge.specs.Turns.{BridgesMachine, Turn, OfFirmware, OfBridge, Step, IsTurn, AreTurns}
+use Rattle.erst_bridge.specs.MachinesInStep.{KeepOrder}
 use Rattle.erst_bridge.specs.Sums.{taken_by, stored_by, acknowledged_by, sum_of, held_in, released_in}
+use Rattle.erst_bridge.proofs.Terms.{KeepsOrder, last_of}
 
 -- the two sums of some turns
 abbrev pub Balance : ℕ → ℕ → ℕ → BridgeState → BridgeState → Type 0

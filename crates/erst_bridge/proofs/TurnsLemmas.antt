@@ -11,7 +11,8 @@ use Rattle.erst_bridge.specs.Turns.{Turn, Step, bridged_machine, IsTurn, AreTurn
 use Rattle.erst_bridge.specs.declared.made.SideTurn.{SideTurn}
 use Rattle.erst_bridge.specs.declared.made.SideTurn.TheVariants.{Firmware as ByFirmware, Bridge as ByBridge}
 use Rattle.erst_bridge.specs.declared.made.MadeTurn.{MadeTurn}
-use Rattle.erst_bridge.specs.Made.{turn_of, told_turn, side_in, sides_in, made_by, AreCounted, MakesTurns}
+use Rattle.erst_bridge.specs.Made.{turn_of, side_in, sides_in, made_by, AreCounted, MakesTurns}
+use Rattle.erst_bridge.proofs.Terms.{told_turn}
 
 pub told_again : (turn : SideTurn) → told_turn (turn_of turn) ≡ turn
 told_again (ByFirmware event) = refl

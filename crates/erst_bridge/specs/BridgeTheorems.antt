@@ -13,11 +13,13 @@ use Rattle.erst_commands.specs.Causes.{GoesThrough}
 use Rattle.erst_bridge.specs.declared.events.BridgeEvent.TheVariants.{Stored, Kept, Out}
 use Rattle.erst_bridge.specs.Bridges.{BridgeState, Holds, Releases}
 use Rattle.erst_bridge.specs.Turns.{Step}
-use Rattle.erst_bridge.specs.BridgedRuns.{BridgedTurn, BridgedRun, IsMadeRun, run_behind, EachLossShows}
-use Rattle.erst_bridge.specs.Shown.{stored_record, ShowsTurns, IsStoredAs, IsCovered}
+use Rattle.erst_bridge.specs.BridgedRuns.{BridgedTurn, BridgedRun, IsMadeRun, EachLossShows}
+use Rattle.erst_bridge.specs.Shown.{ShowsTurns, IsStoredAs, IsCovered}
 use Rattle.erst_bridge.specs.MachinesInStep.{StandsInStep, KeepOrder}
 use Rattle.erst_bridge.specs.Sums.{taken_by, stored_by, acknowledged_by, sum_of, held_in, released_in}
 use Rattle.erst_bridge.specs.Prefixes.{HasPrefix, bytes_in}
+use Rattle.erst_commands.specs.Writes.{marked}
+use Rattle.erst_bridge.specs.BridgedRecord.{bridged}
 
 -- what a run did to the machine is one list of accesses and turns
 abbrev pub IsOneList : (tells : Type 0) → BridgedRun → Type 0
@@ -27,15 +29,13 @@ IsOneList tells run = (trail : List (Move Event MachineState)) × Trail (Happens
 abbrev pub EachLossShowsItsTurns : BridgedRun → Type 0
 EachLossShowsItsTurns run = EachLossShows run.first run.last (λ s shown. ShowsTurns s run.bridge run.first run.steps shown)
 
--- the turn stored a held block, and whatever turns come behind it, power lost in them leaves its record
-abbrev pub IsOfAHeldBlock : (id : ℕ) → BridgedTurn → BridgedRun → Type 0
-IsOfAHeldBlock id turn run =
-    (block : List ℕ) × (turn.bridge ≡ Holds id block) × EachLossShows turn.new run.last (λ s shown. IsStoredAs id (stored_record block id) shown)
-
+-- a turn stored a held block, and whatever turns come behind it, by the same client and with the same budget: power lost in them leaves
+-- its record
 abbrev pub EachStoredBlockStays : (tells : Type 0) → BridgedTurn → Type 0
 EachStoredBlockStays tells turn =
-    (id : ℕ) → turn.event ≡ Stored id → (steps : List Step) (end : BridgeState) (last : MachineState) → IsMadeRun tells (run_behind turn steps end last)
-    → IsOfAHeldBlock id turn (run_behind turn steps end last)
+    (id : ℕ) → turn.event ≡ Stored id → (steps : List Step) (end : BridgeState) (last : MachineState)
+    → IsMadeRun tells (record { client = turn.client; budget = turn.budget; bridge = turn.next; first = turn.new; steps = steps; next = end; last = last })
+    → (block : List ℕ) × (turn.bridge ≡ Holds id block) × EachLossShows turn.new last (λ s shown. IsStoredAs id (marked (bridged block id)) shown)
 
 -- whenever the reader gives a block back, the record of the block that it took last is stored
 abbrev pub StaysCovered : BridgedRun → HandoverMachine → Type 0

@@ -39,11 +39,6 @@ pub record BridgedRun : Type 0 where
 abbrev pub IsMadeRun : (tells : Type 0) → BridgedRun → Type 0
 IsMadeRun tells run = AreTurns tells run.client run.budget run.bridge run.first run.steps run.next run.last
 
--- a run behind a turn, by the same client and with the same budget
-abbrev pub run_behind : BridgedTurn → List Step → BridgeState → MachineState → BridgedRun
-run_behind turn steps next last =
-    record { client = turn.client; budget = turn.budget; bridge = turn.next; first = turn.new; steps = steps; next = next; last = last }
-
 -- the client is the one that attaching to the machine's own table finds
 pub record IsByOwnClient (client : ClientState) (first : MachineState) : Type 0 where
   pub own : client ≡ own_client first

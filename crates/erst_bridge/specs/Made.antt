@@ -13,11 +13,6 @@ abbrev pub turn_of : SideTurn → Turn
 turn_of (ByFirmware event) = OfFirmware event
 turn_of (ByBridge event) = OfBridge event
 
--- a turn as it is told
-abbrev pub told_turn : Turn → SideTurn
-told_turn (OfFirmware event) = ByFirmware event
-told_turn (OfBridge event) = ByBridge event
-
 -- the side whose turn it was: a bridge makes the reader's
 abbrev pub side_in : Turn → Side
 side_in (OfFirmware event) = Firmware
@@ -30,7 +25,11 @@ sides_in (step ∷ rest) = side_in step.turn ∷ sides_in rest
 -- each turn with the flash changes that were made when it ended
 abbrev pub made_by : List Step → List MadeTurn
 made_by [] = []
-made_by (step ∷ rest) = (record { turn = told_turn step.turn; step = step.machine.device.store.flash.steps }) ∷ made_by rest
+made_by (step ∷ rest) =
+    (record {
+      turn = elim step.turn [ OfFirmware event ↦ ByFirmware event | OfBridge event ↦ ByBridge event ];
+      step = step.machine.device.store.flash.steps;
+    }) ∷ made_by rest
 
 -- which are those that the flash tells
 abbrev pub AreCounted : List Step → Type 0

@@ -5,7 +5,8 @@ use Rattle.std.specs.FinMap.{get}
 use Rattle.record_model.specs.Records.{Stored}
 use Rattle.ghes_ack.specs.Machine.{Machine}
 use Rattle.erst_bridge.specs.Bridges.{BridgeState, Off, Awaits, Holds, Releases}
-use Rattle.erst_bridge.specs.Shown.{stored_record}
+use Rattle.erst_commands.specs.Writes.{marked}
+use Rattle.erst_bridge.specs.BridgedRecord.{bridged}
 
 -- the bytes that each identifier has, without their generation: a record that is written again, since its write failed at its end, has the
 -- next one
@@ -16,7 +17,7 @@ bytes_in stored id = option_map (λ (held : List ℕ × ℕ). held.0) (get store
 abbrev pub with_blocks : ℕ → List (List ℕ) → (ℕ → Option (List ℕ)) → ℕ → Option (List ℕ)
 with_blocks id [] contents = contents
 with_blocks id (block ∷ blocks) contents =
-    with_blocks (id + 1) blocks (λ (other : ℕ). if other == id then Some (stored_record block id) else contents other)
+    with_blocks (id + 1) blocks (λ (other : ℕ). if other == id then Some (marked (bridged block id)) else contents other)
 
 -- the identifier of the next block that is stored
 abbrev pub next_id : BridgeState → ℕ
@@ -25,14 +26,8 @@ next_id (Awaits id) = id
 next_id (Holds id block) = id
 next_id (Releases id) = id
 
--- the blocks that are held, or submitted and not yet taken, in order
-abbrev pub to_come : BridgeState → Machine → List (List ℕ)
-to_come Off m = drop m.taken m.blocks
-to_come (Awaits id) m = drop m.taken m.blocks
-to_come (Holds id block) m = block ∷ drop m.taken m.blocks
-to_come (Releases id) m = drop m.taken m.blocks
-
--- the records are these contents, with those of the first so many blocks to come
+-- the records are these contents, with those of the first so many blocks to come: those that are held, or submitted and not yet taken
 pub record HasPrefix (bridge : BridgeState) (m : Machine) (contents : ℕ → Option (List ℕ)) (shown : Stored) : Type 0 where
   pub count : ℕ
-  pub same : (id : ℕ) → bytes_in shown id ≡ with_blocks (next_id bridge) (take count (to_come bridge m)) contents id
+  pub same : (id : ℕ) → bytes_in shown id ≡ with_blocks (next_id bridge) (take count (
+      elim bridge [ Holds held block ↦ block ∷ drop m.taken m.blocks | other ↦ drop m.taken m.blocks ])) contents id

@@ -13,22 +13,16 @@ use Rattle.erst_bridge.specs.BridgedRecord.{bridged}
 use Rattle.erst_bridge.specs.Bridges.{BridgeState, Off, Awaits, Holds, Releases}
 use Rattle.erst_bridge.specs.Turns.{Turn, OfFirmware, OfBridge, Step}
 
--- a block's record as it is stored, marked as one in persistent storage
-abbrev pub stored_record : List ℕ → ℕ → List ℕ
-stored_record block id = marked (bridged block id)
-
--- the records as a client's write of some bytes leaves them where nothing fails: bytes that the client refuses change nothing
-abbrev pub after_write : MachineState → List ℕ → Records
-after_write state bytes =
-    if is_none (write_refusal bytes (reach_in state.device)) then after state.device.store.layout (Write (id_of bytes) (marked bytes)) (records_of state)
-    else records_of state
-
--- as a turn leaves them: one that was answered `Stored` or `Kept` is a write of the held block's record
+-- the records as a turn leaves them where nothing fails: one that was answered `Stored` or `Kept` is a client's write of the held block's
+-- record, and bytes that the client refuses change nothing
 abbrev pub after_turn : BridgeState → MachineState → Turn → Records
 after_turn bridge state (OfFirmware event) = records_of state
 after_turn bridge state (OfBridge (Line event)) = records_of state
 after_turn bridge state (OfBridge Out) = records_of state
-after_turn (Holds id block) state (OfBridge event) = after_write state (bridged block id)
+after_turn (Holds id block) state (OfBridge event) =
+    let bytes = bridged block id in
+    if is_none (write_refusal bytes (reach_in state.device)) then after state.device.store.layout (Write (id_of bytes) (marked bytes)) (records_of state)
+    else records_of state
 after_turn bridge state (OfBridge event) = records_of state
 
 -- power lost at step s shows the records after the turns that had ended by s, or as the next one leaves them where nothing fails
@@ -48,4 +42,4 @@ abbrev pub IsCovered : BridgeState → Machine → Records → Type 0
 IsCovered Off m stored = Unit {0}
 IsCovered (Awaits id) m stored = Unit {0}
 IsCovered (Holds id block) m stored = Unit {0}
-IsCovered (Releases next) m stored = (id : ℕ) × (next ≡ id + 1) × IsStoredAs id (stored_record (last_taken m) id) stored
+IsCovered (Releases next) m stored = (id : ℕ) × (next ≡ id + 1) × IsStoredAs id (marked (bridged (last_taken m) id)) stored

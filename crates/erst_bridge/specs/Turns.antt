@@ -9,14 +9,11 @@ use Rattle.erst_machine.specs.Events.{Turns}
 use Rattle.erst_bridge.specs.declared.events.BridgeEvent.{BridgeEvent}
 use Rattle.erst_bridge.specs.Bridges.{BridgeState, station_rules, Asker, asker_of, Bridges}
 
--- the block that the machine's reader took last
-abbrev pub last_of : MachineState → List ℕ
-last_of state = state.handover.last
-
 -- a turn of a bridge over the machine
 abbrev pub BridgesMachine : Type 0 → ClientState → ℕ → MachineState → BridgeState → BridgeEvent → BridgeState → ℕ → MachineState → Type 0
 BridgesMachine tells client budget old bridge event next left new =
-    Bridges (station_rules {S = MachineState} {W = MachineState} (λ state. state) (Allows tells) (Turns Reader) last_of) (asker_of client budget) old bridge event
+    Bridges (station_rules {S = MachineState} {W = MachineState} (λ state. state) (Allows tells) (Turns Reader) (λ state. state.handover.last))
+    (asker_of client budget) old bridge event
     (record { bridge = next; left = left; station = new })
 
 -- a turn of either side, with what it did

@@ -1,7 +1,7 @@
 // Laws of a bridge: the functions do nothing, and their clauses are the laws.
 ghost use Rattle.std.specs.Prelude.{◌≡◌, ℕ, ◌+◌, ◌^◌, ◌<◌, ◌≤◌, List, length};
 ghost use Rattle.base_model.specs.Bytes.{number_at, part};
-ghost use Rattle.cper_frame.specs.Reading.{IsWhole, id_place};
+ghost use Rattle.cper_frame.specs.Reading.{IsWhole};
 ghost use Rattle.ghes_ack.specs.declared.events.Side.TheVariants.{Reader as OfReader};
 ghost use Rattle.ghes_ack.specs.Machine.{Machine, IsState, turned, last_taken};
 ghost use Rattle.erst_bridge.specs.declared.events.BridgeEvent.TheVariants.{Line as IsLine};
@@ -13,7 +13,7 @@ ghost use Rattle.erst_bridge.specs.InStep.{IsInStep, IsInOrder};
 pub fn a_bridged_block_is_a_record()
     ensures whole { (block : List ℕ) (id : ℕ) → id < 2 ^ 64 → length block ≤ 4096 → IsWhole (bridged block id) }
     ensures size { (block : List ℕ) (id : ℕ) → id < 2 ^ 64 → length (bridged block id) ≡ 200 + length block }
-    ensures name { (block : List ℕ) (id : ℕ) → id < 2 ^ 64 → number_at (bridged block id) id_place 8 ≡ id }
+    ensures name { (block : List ℕ) (id : ℕ) → id < 2 ^ 64 → number_at (bridged block id) 96 8 ≡ id }
     ensures body { (block : List ℕ) (id : ℕ) → id < 2 ^ 64 → part (bridged block id) 200 (length block) ≡ block }
 {}
 

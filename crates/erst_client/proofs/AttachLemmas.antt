@@ -15,8 +15,9 @@ use Rattle.erst_client.specs.declared.requests.Request.{Request}
 use Rattle.erst_client.specs.Timings.{timings_of}
 use Rattle.erst_client.specs.Requests.{Asks, NoneLeft, Answered, StopsHere}
 use Rattle.erst_client.specs.Commands.{ClientState}
-use Rattle.erst_client.specs.Attaching.{timing_requests, attach_requests, attached, Attaches, client_result, found_result, AsksTimings, NoTimings, HasTimings, TimingsStop}
+use Rattle.erst_client.specs.Attaching.{attach_requests, Attaches, client_result, found_result, AsksTimings, NoTimings, HasTimings, TimingsStop}
 use Rattle.erst_client.proofs.RequestLemmas.{asks_on}
+use Rattle.erst_client.proofs.Terms.{timing_requests, attached}
 
 -- the request that the timings are, or none
 abbrev pub TimingsAsked : {W : Type 0} → (W → Call → W → Type 0) → List Entry → ℕ → ℕ → W → Result (Option (ℕ × ℕ)) RunStop → ℕ → W → Type 0

@@ -19,10 +19,11 @@ use Rattle.erst_client.specs.declared.errors.ClientError.{ClientError}
 use Rattle.erst_client.specs.declared.errors.ClientError.TheVariants.{NoSpace, Hardware, Failed, Empty, NotFound, Status, Stopped, Range}
 use Rattle.erst_client.specs.declared.requests.Request.{Request}
 use Rattle.erst_client.specs.Requests.{Performs, Asks, NoneLeft, Answered, StopsLater, StopsHere}
-use Rattle.erst_client.specs.Sequences.{Pauses, Untimed, Timed, TooOften, Waits, IsIdle, IsStopped, IsLate, judged, UntilStatus, NotAsked, NotWaited, NotTold, IsTold, closed, Sequence, end_steps}
-use Rattle.erst_client.specs.Causes.{OfFault, OfStop, OfError, OfAnswer}
+use Rattle.erst_client.specs.Sequences.{Pauses, Untimed, Timed, TooOften, Waits, IsIdle, IsStopped, IsLate, judged, UntilStatus, NotAsked, NotWaited, NotTold, IsTold, Sequence}
+use Rattle.erst_client.specs.Causes.{OfFault, OfStop, OfError}
 use Rattle.erst_client.proofs.RequestLemmas.{performs_on, asks_on}
 use Rattle.erst_client.proofs.SequenceLemmas.{busy_on, waits_on, until_status_on}
+use Rattle.erst_client.proofs.Terms.{closed, end_steps, OfAnswer}
 
 -- what comes before and after a rise
 rose_within : (a b c d : ℕ) → a ≤ b → b ≤ c → Rose b c → c ≤ d → Rose a d

@@ -11,14 +11,15 @@ use Rattle.erst_client.specs.declared.errors.AttachError.TheVariants.{NonVolatil
 use Rattle.erst_client.specs.declared.errors.ClientError.{ClientError}
 use Rattle.erst_client.specs.declared.errors.ClientError.TheVariants.{Hardware}
 use Rattle.erst_client.specs.Sequences.{write_requests, read_requests, Sequence}
-use Rattle.erst_client.specs.Commands.{ClientState, Puts, NotPut, NotMarked, IsPut, Writes, IsNoRecord, IsNotPut, IsAsked, copied, CopiesOut, IsFilled, IsNotFilled, Reads, IsNotRead, HasNoLength, IsNotCopied, IsCopied, counted, Counts, named, Names}
-use Rattle.erst_client.specs.Attaching.{attach_requests, attached, client_of, Attaches}
-use Rattle.erst_client.specs.Causes.{OfAnswer, OfAttaching, HasDeviceCause, HasAttachCause}
+use Rattle.erst_client.specs.Commands.{ClientState, Puts, NotPut, NotMarked, IsPut, Writes, IsNoRecord, IsNotPut, IsAsked, copied, CopiesOut, IsFilled, IsNotFilled, Reads, IsNotRead, HasNoLength, IsNotCopied, IsCopied, Counts, Names}
+use Rattle.erst_client.specs.Attaching.{attach_requests, Attaches}
+use Rattle.erst_client.specs.Causes.{OfAttaching, HasDeviceCause, HasAttachCause}
 use Rattle.erst_client.proofs.SequenceLemmas.{sequence_on}
 use Rattle.erst_client.proofs.CommandLemmas.{puts_on, writes_on, copies_on, reads_on, counts_on, names_on}
 use Rattle.erst_client.proofs.AttachLemmas.{attaches_on}
 use Rattle.erst_client.proofs.RefusalLemmas.{write_own, copy_own, own_cause}
 use Rattle.erst_client.proofs.CauseLemmas.{OfAsked, fault_within, answer_within, fault_cause, rises, performs_cause, asks_cause, sequence_cause}
+use Rattle.erst_client.proofs.Terms.{client_of, attached, counted, named, OfAnswer}
 
 module _ {W : Type 0} (allows : W → Call → W → Type 0) (faults : W → ℕ) (reasons : (old new : W) (call : Call) → allows old call new → HasReason faults old call new) where
   puts_cause : (address : ℕ) (bytes : List ℕ) (old : W) (result : Result (Unit {0}) ClientError) (new : W) → Puts allows address bytes old result new → OfAnswer (faults old) (faults new) result

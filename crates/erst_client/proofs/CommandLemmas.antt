@@ -7,9 +7,10 @@ use Rattle.erst_entries.specs.declared.actions.Action.TheVariants.{GetRecordCoun
 use Rattle.erst_entries.specs.declared.entries.Entry.{Entry}
 use Rattle.erst_client.specs.declared.errors.ClientError.{ClientError}
 use Rattle.erst_client.specs.Sequences.{write_requests, read_requests, Sequence}
-use Rattle.erst_client.specs.Commands.{ClientState, Puts, NotPut, NotMarked, IsPut, Writes, IsNoRecord, IsNotPut, IsAsked, CopiesOut, IsFilled, IsNotFilled, LengthRead, copy_refusal, copied, Reads, IsNotRead, HasNoLength, IsNotCopied, IsCopied, Counts, Names}
+use Rattle.erst_client.specs.Commands.{ClientState, Puts, NotPut, NotMarked, IsPut, Writes, IsNoRecord, IsNotPut, IsAsked, CopiesOut, IsFilled, IsNotFilled, copy_refusal, copied, Reads, IsNotRead, HasNoLength, IsNotCopied, IsCopied, Counts, Names}
 use Rattle.erst_client.proofs.RequestLemmas.{performs_on}
 use Rattle.erst_client.proofs.SequenceLemmas.{sequence_on}
+use Rattle.erst_client.proofs.Terms.{LengthRead}
 
 pub puts_on : {W : Type 0} (allows : W → Call → W → Type 0) (address : ℕ) (bytes : List ℕ) (old : W) (result : Result (Unit {0}) ClientError) (new : W) → Puts allows address bytes old result new → Reaches allows old new
 puts_on allows address bytes old result new puts =

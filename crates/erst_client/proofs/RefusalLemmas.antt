@@ -6,8 +6,9 @@ use Rattle.cper_frame.specs.declared.error.FrameError.{FrameError}
 use Rattle.cper_frame.specs.Reading.{checked}
 use Rattle.erst_client.specs.declared.errors.ClientError.{ClientError}
 use Rattle.erst_client.specs.declared.errors.ClientError.TheVariants.{NoSpace, Hardware, Failed, Empty, NotFound, TooLong, Status, Stopped, Range, Late}
-use Rattle.erst_client.specs.Commands.{length_refusal, frame_refusal, write_refusal, copy_refusal}
+use Rattle.erst_client.specs.Commands.{write_refusal, copy_refusal}
 use Rattle.erst_client.specs.Causes.{OfError}
+use Rattle.erst_client.proofs.Terms.{length_refusal, frame_refusal}
 
 -- a refusal that is neither a status of the firmware, nor a stop, a fault of the range or a wait
 abbrev pub is_own : ClientError → Bool

@@ -8,9 +8,10 @@ use Rattle.erst_client.specs.declared.errors.ClientError.{ClientError}
 use Rattle.erst_client.specs.declared.errors.ClientError.TheVariants.{Late}
 use Rattle.erst_client.specs.declared.requests.Request.{Request}
 use Rattle.erst_client.specs.Requests.{Performs}
-use Rattle.erst_client.specs.Sequences.{Pauses, Untimed, Timed, TooOften, Busy, NotYet, Again, Waits, IsIdle, IsStopped, IsLate, UntilStatus, NotAsked, NotWaited, NotTold, IsTold, Sequence, end_steps}
-use Rattle.erst_client.specs.Waiting.{HasWaited, Paused, NoPause, Pause, NoTime}
+use Rattle.erst_client.specs.Sequences.{Pauses, Untimed, Timed, TooOften, Busy, NotYet, Again, Waits, IsIdle, IsStopped, IsLate, UntilStatus, NotAsked, NotWaited, NotTold, IsTold, Sequence}
+use Rattle.erst_client.specs.Waiting.{Paused, NoPause, Pause, NoTime}
 use Rattle.erst_client.proofs.RequestLemmas.{performs_on, asks_on}
+use Rattle.erst_client.proofs.Terms.{end_steps, HasWaited}
 
 pauses_on : {W : Type 0} (allows : W → Call → W → Type 0) (first : W) (timings : Option (ℕ × ℕ)) (busy : ℕ) (old : W) (result : Result (Unit {0}) ClientError) (new : W) →
     Reaches allows first old → Pauses allows timings busy old result new → Reaches allows first new

@@ -16,31 +16,25 @@ use Rattle.erst_client.specs.Requests.{Performs, Asks}
 use Rattle.erst_client.specs.Commands.{ClientState}
 
 -- the timings are asked for where the table has entries for them
-abbrev pub timing_requests : ℕ → List Request
-timing_requests entries = if entries == 0 then [] else record { action = GetExecuteOperationTimings; given = 0 } ∷ []
-
 abbrev pub attach_requests : List Entry → List Request
 attach_requests entries =
     record { action = GetErrorLogAddressRange; given = 0 } ∷ record { action = GetErrorLogAddressRangeLength; given = 0 }
-    ∷ record { action = GetErrorLogAddressRangeAttributes; given = 0 } ∷ timing_requests (length (entries_of (code_of GetExecuteOperationTimings) entries))
+    ∷ record { action = GetErrorLogAddressRangeAttributes; given = 0 }
+    ∷ (if length (entries_of (code_of GetExecuteOperationTimings) entries) == 0 then [] else record { action = GetExecuteOperationTimings; given = 0 } ∷ [])
 
--- the client of the answers: the range's address, its length, its attributes, and the timings
-abbrev pub client_of : Erst → List ℕ → ClientState
-client_of erst answers = record { table = erst; address = slice_index answers 0; range = slice_index answers 1; timings = timings_of (slice_get answers 3) }
-
--- bit 1 of the attributes is non-volatile memory
-abbrev pub attached : Erst → Result (List ℕ) RunStop → Result ClientState AttachError
-attached erst (Err stop) = Err (Stopped stop)
-attached erst (Ok answers) =
-    if not (bit_and (slice_index answers 2) 2 == 0) then Err (NonVolatile (slice_index answers 2))
-    else (if nat_lt (slice_index answers 1) 128 then Err (NoRange (slice_index answers 1))
-    else Ok (client_of erst answers))
-
--- all is asked first, and judged then
+-- all is asked first, and judged then: the answers are the range's address, its length, its attributes, of which bit 1 is non-volatile
+-- memory, and the timings
 pub record Attaches {W : Type 0} (allows : W → Call → W → Type 0) (erst : Erst) (budget : ℕ) (old : W) (result : Result ClientState AttachError) (left : ℕ) (last : W) : Type 0 where
   pub answers : Result (List ℕ) RunStop
   pub asks : Asks allows erst.entries (attach_requests erst.entries) budget old answers left last
-  pub result_is : result ≡ attached erst answers
+  pub result_is :
+      result ≡ elim answers [
+        | Err stop ↦ Err (Stopped stop)
+        | Ok told ↦
+            if not (bit_and (slice_index told 2) 2 == 0) then Err (NonVolatile (slice_index told 2))
+            else (if nat_lt (slice_index told 1) 128 then Err (NoRange (slice_index told 1))
+            else Ok (record { table = erst; address = slice_index told 0; range = slice_index told 1; timings = timings_of (slice_get told 3) }))
+      ]
 
 -- the client of a table and of what was found of it
 abbrev pub client_with : Erst → FoundRange → ClientState

@@ -1,5 +1,5 @@
 -- When a client may answer a device's fault: only where the count of faults of its space rose.
-use Rattle.std.specs.Prelude.{ℕ, ◌≤◌, Result, Ok, Err}
+use Rattle.std.specs.Prelude.{ℕ, ◌≤◌, Result, Ok, Err, IfErr}
 use Rattle.base_model.specs.Faults.{Rose}
 use Rattle.apei_space.specs.declared.faults.SpaceFault.{SpaceFault}
 use Rattle.apei_space.specs.declared.faults.SpaceFault.TheVariants.{Device}
@@ -23,10 +23,6 @@ OfError before after (Stopped stop) = OfStop before after stop
 OfError before after (Range fault) = OfFault before after fault
 OfError before after error = Unit {0}
 
-abbrev pub OfAnswer : {T : Type 0} → ℕ → ℕ → Result T ClientError → Type 0
-OfAnswer before after (Ok value) = Unit {0}
-OfAnswer before after (Err error) = OfError before after error
-
 abbrev pub OfAttaching : {T : Type 0} → ℕ → ℕ → Result T AttachError → Type 0
 OfAttaching before after (Ok value) = Unit {0}
 OfAttaching before after (Err (CantAsk stop)) = OfStop before after stop
@@ -35,7 +31,7 @@ OfAttaching before after (Err error) = Unit {0}
 -- the count never falls, and rose where a device's fault is answered
 pub record HasDeviceCause {T : Type 0} (before after : ℕ) (result : Result T ClientError) : Type 0 where
   pub never_falls : before ≤ after
-  pub of_answer : OfAnswer before after result
+  pub of_answer : IfErr result (OfError before after)
 
 pub record HasAttachCause {T : Type 0} (before after : ℕ) (result : Result T AttachError) : Type 0 where
   pub never_falls : before ≤ after

@@ -3,7 +3,6 @@ use Rattle.std.specs.Prelude.{◌≡◌, ℕ, ◌+◌, ◌-◌, ◌%◌, ◌^◌
 use Rattle.base_model.specs.Bytes.{number_at}
 use Rattle.apei_space.specs.declared.faults.SpaceFault.{SpaceFault}
 use Rattle.apei_space.specs.Calls.{Call, ReadBytes, WriteBytes}
-use Rattle.cper_frame.specs.declared.error.FrameError.{FrameError}
 use Rattle.cper_frame.specs.Reading.{checked}
 use Rattle.erst_entries.specs.declared.actions.Action.TheVariants.{GetRecordCount, GetRecordIdentifier}
 use Rattle.erst_entries.specs.declared.entries.Entry.{Entry}
@@ -22,18 +21,13 @@ pub record ClientState : Type 0 where
   pub timings : Option (ℕ × ℕ)
 
 -- why bytes are not written: they are no error record, others follow it, or it is longer than the range
-abbrev pub length_refusal : ℕ → ℕ → ℕ → Option ClientError
-length_refusal len have range =
-    if nat_lt len have then Some (Trailing (have - len))
-    else (if nat_lt range have then Some (TooLong have range)
-    else None)
-
-abbrev pub frame_refusal : Result ℕ FrameError → ℕ → ℕ → Option ClientError
-frame_refusal (Err error) have range = Some (Frame error)
-frame_refusal (Ok len) have range = length_refusal len have range
-
 abbrev pub write_refusal : List ℕ → ℕ → Option ClientError
-write_refusal bytes range = frame_refusal (checked (2 ^ 32 - 1) bytes) (length bytes) range
+write_refusal bytes range =
+    let have = length bytes in
+    elim (checked (2 ^ 32 - 1) bytes) [
+      | Err error ↦ Some (Frame error)
+      | Ok len ↦ if nat_lt len have then Some (Trailing (have - len)) else (if nat_lt range have then Some (TooLong have range) else None)
+    ]
 
 -- where the range's byte so far from its start is
 abbrev pub address_in : ℕ → ℕ → ℕ
@@ -74,22 +68,22 @@ abbrev pub copied : Result (Unit {0}) ClientError → ℕ → Result ℕ ClientE
 copied (Ok done) len = Ok len
 copied (Err error) len = Err error
 
--- the record's length, the four bytes at 20, is read by one access
-abbrev pub LengthRead : {W : Type 0} → (W → Call → W → Type 0) → ClientState → W → List ℕ → Result (Unit {0}) SpaceFault → W → Type 0
-LengthRead allows client old field answer new = allows old (ReadBytes (address_in client.address 20) (0 ∷ 0 ∷ 0 ∷ 0 ∷ []) field answer) new
-
--- a read: its answer, what the buffer holds then, the steps that are left and the space afterwards
+-- a read, in which one access reads the record's length, the four bytes at 20: its answer, what the buffer holds then, the steps that
+-- are left and the space afterwards
 pub data Reads {W : Type 0} (allows : W → Call → W → Type 0) (client : ClientState) (id : ℕ) (out : List ℕ) (budget : ℕ) (old : W) : Result ℕ ClientError → List ℕ → ℕ → W → Type 0 where
   IsNotRead : (error : ClientError) (left : ℕ) (last : W) → Sequence allows client.table.entries client.timings (read_requests id) budget old (Err error) left last →
       Reads allows client id out budget old (Err error) out left last
   HasNoLength : (left : ℕ) (mid : W) (field : List ℕ) (fault : SpaceFault) (last : W) → Sequence allows client.table.entries client.timings (read_requests id) budget old (Ok tt) left mid →
-      LengthRead allows client mid field (Err fault) last → Reads allows client id out budget old (Err (Range fault)) out left last
+      allows mid (ReadBytes (address_in client.address 20) (0 ∷ 0 ∷ 0 ∷ 0 ∷ []) field (Err fault)) last →
+      Reads allows client id out budget old (Err (Range fault)) out left last
   IsNotCopied : (left : ℕ) (mid : W) (field : List ℕ) (error : ClientError) (last : W) → Sequence allows client.table.entries client.timings (read_requests id) budget old (Ok tt) left mid →
-      LengthRead allows client mid field (Ok tt) last → copy_refusal (number_at field 0 4) client.range (length out) ≡ Some error →
+      allows mid (ReadBytes (address_in client.address 20) (0 ∷ 0 ∷ 0 ∷ 0 ∷ []) field (Ok tt)) last →
+      copy_refusal (number_at field 0 4) client.range (length out) ≡ Some error →
       Reads allows client id out budget old (Err error) out left last
   IsCopied : (left : ℕ) (mid : W) (field : List ℕ) (next : W) (whole : List ℕ) (answer : Result (Unit {0}) ClientError) (last : W) →
       Sequence allows client.table.entries client.timings (read_requests id) budget old (Ok tt) left mid →
-      LengthRead allows client mid field (Ok tt) next → copy_refusal (number_at field 0 4) client.range (length out) ≡ None →
+      allows mid (ReadBytes (address_in client.address 20) (0 ∷ 0 ∷ 0 ∷ 0 ∷ []) field (Ok tt)) next →
+      copy_refusal (number_at field 0 4) client.range (length out) ≡ None →
       CopiesOut allows client.address (take (number_at field 0 4) out) whole next answer last →
       Reads allows client id out budget old (copied answer (number_at field 0 4)) (whole ++ drop (number_at field 0 4) out) left last
 
@@ -97,24 +91,18 @@ pub data Reads {W : Type 0} (allows : W → Call → W → Type 0) (client : Cli
 abbrev pub ReadsInto : {W : Type 0} → (W → Call → W → Type 0) → ClientState → ℕ → List ℕ → ℕ → W → Result ℕ ClientError × List ℕ → ℕ → W → Type 0
 ReadsInto allows client id out budget old read left last = Reads allows client id out budget old read.0 read.1 left last
 
--- GET_RECORD_COUNT and GET_RECORD_IDENTIFIER, without END_OPERATION
-abbrev pub counted : Result ℕ RunStop → Result ℕ ClientError
-counted (Err stop) = Err (Stopped stop)
-counted (Ok count) = if count == 2 ^ 32 - 1 then Err Hardware else Ok count
-
+-- GET_RECORD_COUNT, without END_OPERATION
 pub record Counts {W : Type 0} (allows : W → Call → W → Type 0) (entries : List Entry) (budget : ℕ) (old : W) (result : Result ℕ ClientError) (left : ℕ) (last : W) : Type 0 where
   pub answer : Result ℕ RunStop
   pub asks : Performs allows entries GetRecordCount 0 budget old answer left last
-  pub result_is : result ≡ counted answer
+  pub result_is : result ≡ elim answer [ Err stop ↦ Err (Stopped stop) | Ok count ↦ if count == 2 ^ 32 - 1 then Err Hardware else Ok count ]
 
-abbrev pub named : Result ℕ RunStop → Result (Option ℕ) ClientError
-named (Err stop) = Err (Stopped stop)
-named (Ok id) =
-    if id == 0 then Err Hardware
-    else (if id == 2 ^ 64 - 1 then Ok None
-    else Ok (Some id))
-
+-- GET_RECORD_IDENTIFIER, without END_OPERATION
 pub record Names {W : Type 0} (allows : W → Call → W → Type 0) (entries : List Entry) (budget : ℕ) (old : W) (result : Result (Option ℕ) ClientError) (left : ℕ) (last : W) : Type 0 where
   pub answer : Result ℕ RunStop
   pub asks : Performs allows entries GetRecordIdentifier 0 budget old answer left last
-  pub result_is : result ≡ named answer
+  pub result_is :
+      result ≡ elim answer [
+        | Err stop ↦ Err (Stopped stop)
+        | Ok id ↦ if id == 0 then Err Hardware else (if id == 2 ^ 64 - 1 then Ok None else Ok (Some id))
+      ]

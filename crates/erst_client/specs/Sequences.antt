@@ -73,17 +73,7 @@ pub data UntilStatus {W : Type 0} (allows : W → Call → W → Type 0) (entrie
       Waits allows entries timings asked mid (Ok tt) waited idle → Performs allows entries GetCommandStatus 0 waited idle (Ok status) left last →
       UntilStatus allows entries timings requests budget first (judged status) left last
 
--- the stop of END_OPERATION is answered only where all before it was well
-abbrev pub closed : Result (Unit {0}) ClientError → Result ℕ RunStop → Result (Unit {0}) ClientError
-closed (Err error) ended = Err error
-closed (Ok done) (Ok answer) = Ok tt
-closed (Ok done) (Err stop) = Err (Stopped stop)
-
--- steps of its own for END_OPERATION
-abbrev pub end_steps : ℕ
-end_steps = 64
-
--- a command, and END_OPERATION however it went
+-- a command, and END_OPERATION however it went, with 64 steps of its own. Its stop is answered only where all before it was well
 pub record Sequence {W : Type 0} (allows : W → Call → W → Type 0) (entries : List Entry) (timings : Option (ℕ × ℕ)) (requests : List Request) (budget : ℕ) (first : W)
     (result : Result (Unit {0}) ClientError) (left : ℕ) (last : W) : Type 0 where
   pub outcome : Result (Unit {0}) ClientError
@@ -91,5 +81,5 @@ pub record Sequence {W : Type 0} (allows : W → Call → W → Type 0) (entries
   pub ended : Result ℕ RunStop
   pub spare : ℕ
   pub until_status : UntilStatus allows entries timings requests budget first outcome left told
-  pub ends : Performs allows entries EndOperation 0 end_steps told ended spare last
-  pub result_is : result ≡ closed outcome ended
+  pub ends : Performs allows entries EndOperation 0 64 told ended spare last
+  pub result_is : result ≡ elim outcome [ Err error ↦ Err error | Ok done ↦ elim ended [ Ok answer ↦ Ok tt | Err stop ↦ Err (Stopped stop) ] ]

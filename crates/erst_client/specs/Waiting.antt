@@ -1,13 +1,8 @@
 -- Waiting by microseconds, as the client counts them.
-use Rattle.std.specs.Prelude.{◌≡◌, ℕ, ◌+◌, ◌*◌, ◌<◌, ◌≤◌, Option, Some, None, Result, Ok, Err}
+use Rattle.std.specs.Prelude.{◌≡◌, ℕ, ◌+◌, ◌<◌, ◌≤◌, Option, Some, None, Result, Ok, Err}
 use Rattle.apei_space.specs.Calls.{Call, Wait}
 use Rattle.erst_client.specs.declared.errors.ClientError.{ClientError}
 use Rattle.erst_client.specs.declared.errors.ClientError.TheVariants.{Late}
-
--- so long was waited while the firmware was busy so many times; a client without timings does not count
-abbrev pub HasWaited : Option (ℕ × ℕ) → ℕ → ℕ → Type 0
-HasWaited None busy waited = waited ≡ 0
-HasWaited (Some timings) busy waited = waited ≡ 10 * busy
 
 pub data Paused {W : Type 0} (allows : W → Call → W → Type 0) (timings : Option (ℕ × ℕ)) (waited : ℕ) (old : W) : Result ℕ ClientError → W → Type 0 where
   NoPause : timings ≡ None → Paused allows timings waited old (Ok waited) old

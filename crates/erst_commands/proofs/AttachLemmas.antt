@@ -13,7 +13,7 @@ use Rattle.erst_client.specs.declared.requests.Request.{Request}
 use Rattle.erst_client.specs.Requests.{Asks, Performs}
 use Rattle.erst_client.specs.Steps.{steps_of}
 use Rattle.erst_client.specs.Commands.{ClientState}
-use Rattle.erst_client.specs.Attaching.{Attaches, attach_requests, attached, client_of}
+use Rattle.erst_client.specs.Attaching.{Attaches, attach_requests}
 use Rattle.erst_device.specs.Actions.{log_range_at}
 use Rattle.erst_device.specs.Timings.{most_changes, timings_of}
 use Rattle.erst_device.specs.DeviceState.{DeviceState}
@@ -28,6 +28,7 @@ use Rattle.erst_commands.proofs.MachineSteps.{acted_is}
 use Rattle.erst_commands.proofs.OwnProgramLemmas.{has_steps}
 use Rattle.erst_commands.proofs.AskLemmas.{with_answer, FirstAsked, Went, Halted, first_asked, none_asked}
 use Rattle.erst_commands.proofs.LimitLemmas.{reach-few, reach-least, timings-halves}
+use Rattle.erst_client.proofs.Terms.{client_of, attached}
 
 steps_two : (steps_of own_entries GetErrorLogAddressRange ≡ 2) × (steps_of own_entries GetErrorLogAddressRangeLength ≡ 2) × (steps_of own_entries GetErrorLogAddressRangeAttributes ≡ 2)
     × (steps_of own_entries GetExecuteOperationTimings ≡ 2)

@@ -15,7 +15,7 @@ use Rattle.erst_client.specs.declared.errors.ClientError.{ClientError}
 use Rattle.erst_client.specs.declared.errors.ClientError.TheVariants.{Hardware, Stopped, Late}
 use Rattle.erst_client.specs.declared.requests.Request.{Request}
 use Rattle.erst_client.specs.Requests.{Performs, Asks}
-use Rattle.erst_client.specs.Commands.{Counts, Names, counted as count_answer, named as next_answer}
+use Rattle.erst_client.specs.Commands.{Counts, Names}
 use Rattle.erst_client.specs.Sequences.{Pauses, Untimed, Timed, TooOften, Busy, NotYet, Again, Waits, IsIdle, IsStopped, IsLate, judged, Sequence}
 use Rattle.erst_device.specs.declared.registers.Operation.{Operation}
 use Rattle.erst_device.specs.declared.status.CommandStatus.{CommandStatus}
@@ -34,6 +34,7 @@ use Rattle.erst_commands.proofs.MachineSteps.{on_device}
 use Rattle.erst_commands.proofs.AskLemmas.{Went, Halted, first_asked, none_asked}
 use Rattle.erst_commands.proofs.SequenceLemmas.{RunTo, ok_reaches, begun_device, status_in, HasTold, HasNotTold, HasNotWaited, HasNotAsked, sequence_ends}
 use Rattle.erst_device.proofs.Words.{IsAllowed}
+use Rattle.erst_client.proofs.Terms.{counted as count_answer, named as next_answer}
 
 -- What rose
 

@@ -19,7 +19,7 @@ use Rattle.erst_interp.specs.declared.stops.RunStop.TheVariants.{Budget}
 use Rattle.erst_client.specs.declared.errors.ClientError.{ClientError}
 use Rattle.erst_client.specs.declared.errors.ClientError.TheVariants.{Hardware, Stopped}
 use Rattle.erst_client.specs.Requests.{Performs}
-use Rattle.erst_client.specs.Commands.{Counts, Names, counted as count_answer, named as next_answer}
+use Rattle.erst_client.specs.Commands.{Counts, Names}
 use Rattle.erst_client.specs.Steps.{steps_of}
 use Rattle.erst_device.specs.StoreCalls.{FoundNext, Counted}
 use Rattle.erst_device.specs.DeviceState.{DeviceState, given_up}
@@ -35,6 +35,7 @@ use Rattle.erst_commands.proofs.OwnProgramLemmas.{steps-count, steps-next}
 use Rattle.erst_commands.proofs.MachineSteps.{acted_is}
 use Rattle.erst_commands.proofs.SharedLemmas.{differ}
 use Rattle.erst_device.proofs.Words.{IsAllowed}
+use Rattle.erst_client.proofs.Terms.{counted as count_answer, named as next_answer}
 
 -- what the store says of a call that only looks, from the store with its execution given up
 equivalent_from : (old new : StoreView) → DividesAlike (abandoned old) new → DividesAlike old new

@@ -7,9 +7,9 @@ use Rattle.base_model.specs.Bytes.{part, little, number_at, put_at}
 use Rattle.base_model.proofs.BytesLemmas.{length-put_at, part-before, SameOutside-put_at}
 use Rattle.cper_frame.specs.declared.error.FrameError.{FrameError}
 use Rattle.cper_frame.specs.declared.error.FrameError.TheVariants.{Need, Start, End, Length, Section, Limit}
-use Rattle.cper_frame.specs.Reading.{signature, section_count, record_length, misplaced, checked}
+use Rattle.cper_frame.specs.Reading.{misplaced, checked}
 use Rattle.cper_frame.specs.Grammar.{bodies_from}
-use Rattle.erst_client.specs.Commands.{write_refusal, frame_refusal}
+use Rattle.erst_client.specs.Commands.{write_refusal}
 use Rattle.erst_client.proofs.RefusalLemmas.{length_fits}
 use Rattle.erst_machine.specs.declared.areas.Area.TheVariants.{Scratch, LogRange}
 use Rattle.erst_machine.specs.declared.areas.Location.{Location}
@@ -19,6 +19,8 @@ use Rattle.erst_commands.specs.Changes.{HoldsRecord}
 use Rattle.erst_commands.specs.Writes.{marked, id_of}
 use Rattle.erst_machine.proofs.Words.{memory_areas}
 use Rattle.apei_tables.specs.declared.registers.Place.TheVariants.{Memory}
+use Rattle.cper_frame.proofs.Terms.{signature, section_count, record_length}
+use Rattle.erst_client.proofs.Terms.{frame_refusal}
 
 -- n bytes of the log range, from its start, from the record's length, and from its mark on
 location_of_tests : (in_range all : Bool) (at place limit : ℕ) → in_range ≡ true → all ≡ true

@@ -19,11 +19,12 @@ use Rattle.erst_interp.specs.declared.configurations.Task.{Task}
 use Rattle.erst_interp.specs.declared.stops.RunStop.{RunStop}
 use Rattle.erst_interp.specs.declared.stops.RunStop.TheVariants.{Register as BadRegion, UnknownInstruction, Goto as GotoOutside, MoveTooLong, Space, Budget, NoAction}
 use Rattle.erst_interp.specs.Instructions.{Work, GoOn, GoTo, WaitFor, TakeField, StoreValue, ChangeField, CompareField, MoveBytes, work_of, HasWork, uses_register, reads_first}
-use Rattle.erst_interp.specs.Configurations.{begin, next, compared}
+use Rattle.erst_interp.specs.Configurations.{begin, next}
 use Rattle.erst_interp.specs.Accesses.{FieldRead, Got, Refused, Store, Whole, Beside, Unread}
-use Rattle.erst_interp.specs.Steps.{move_limit, blocks, Waited, AtOnce, After, copy_of, Step, Computes, Goes, Stalls, Takes, Stores, Changes, Compares, Moves, Refusal, NotRead, NotCompared, NotStored, NotChanged, Halt, Unknown, Unregistered, Outside, IsRefused, TooLong, Unpaid, NotCopied}
+use Rattle.erst_interp.specs.Steps.{blocks, Waited, AtOnce, After, Step, Computes, Goes, Stalls, Takes, Stores, Changes, Compares, Moves, Refusal, NotRead, NotCompared, NotStored, NotChanged, Halt, Unknown, Unregistered, Outside, IsRefused, TooLong, Unpaid, NotCopied}
 use Rattle.erst_interp.specs.Runs.{may_be_empty, HasProgram, HasEntry, NeedsNone, task_of, Walk, Begun, Then, Run, NoProgram, Finishes, Exhausted, Halts}
 use Rattle.erst_commands.proofs.Dialogues.{Dialogue, Ends, Calls, go_on, Held, IsDone, Answered, done, then}
+use Rattle.erst_interp.proofs.Terms.{move_limit, copy_of, compared}
 
 -- the answer in a call
 abbrev number_in : Call → Result ℕ SpaceFault

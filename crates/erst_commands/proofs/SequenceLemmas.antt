@@ -11,7 +11,7 @@ use Rattle.erst_client.specs.declared.errors.ClientError.{ClientError}
 use Rattle.erst_client.specs.declared.errors.ClientError.TheVariants.{Stopped}
 use Rattle.erst_client.specs.declared.requests.Request.{Request}
 use Rattle.erst_client.specs.Requests.{Performs, Asks}
-use Rattle.erst_client.specs.Sequences.{Busy, NotYet, Again, Waits, IsIdle, IsStopped, IsLate, judged, UntilStatus, NotAsked, NotWaited, NotTold, IsTold, closed, Sequence, end_steps}
+use Rattle.erst_client.specs.Sequences.{Busy, NotYet, Again, Waits, IsIdle, IsStopped, IsLate, judged, UntilStatus, NotAsked, NotWaited, NotTold, IsTold, Sequence}
 use Rattle.erst_client.specs.Steps.{steps_of}
 use Rattle.erst_device.specs.declared.registers.Operation.{Operation}
 use Rattle.erst_device.specs.declared.status.CommandStatus.{CommandStatus}
@@ -29,6 +29,7 @@ use Rattle.erst_commands.proofs.MachineSteps.{on_device, acted_is}
 use Rattle.erst_commands.proofs.AskLemmas.{with_answer, Went, Halted, first_asked, none_asked}
 use Rattle.erst_commands.proofs.OwnProgramLemmas.{has_steps, steps-offset, steps-identifier, steps-execute, steps-check, steps-status}
 use Rattle.erst_commands.proofs.SharedLemmas.{no_answer, no_stop, same_stop, same_number}
+use Rattle.erst_client.proofs.Terms.{closed, end_steps}
 
 -- The flash, the layout and the cursor are as at first, and beside the device all is; at most an execution was given up
 pub record Untouched (first : MachineState) (w : MachineState) : Type 0 where

@@ -13,7 +13,7 @@ use Rattle.erst_client.specs.declared.errors.ClientError.TheVariants.{Hardware, 
 use Rattle.erst_client.specs.declared.requests.Request.{Request}
 use Rattle.erst_client.specs.Timings.{enough_steps}
 use Rattle.erst_client.specs.Requests.{Asks}
-use Rattle.erst_client.specs.Commands.{ClientState, Writes, IsNoRecord, IsNotPut, IsAsked, CopiesOut, IsFilled, IsNotFilled, copied, Reads, IsNotRead, HasNoLength, IsNotCopied, IsCopied, Counts, Names, counted as count_answer, named as next_answer}
+use Rattle.erst_client.specs.Commands.{ClientState, Writes, IsNoRecord, IsNotPut, IsAsked, CopiesOut, IsFilled, IsNotFilled, copied, Reads, IsNotRead, HasNoLength, IsNotCopied, IsCopied, Counts, Names}
 use Rattle.erst_client.proofs.RefusalLemmas.{is_own, write_own, copy_own}
 use Rattle.erst_client.specs.Sequences.{Waits, write_requests, read_requests, clear_requests, dummy_requests, judged, Sequence}
 use Rattle.erst_device.specs.declared.registers.Operation.TheVariants as operations
@@ -33,6 +33,7 @@ use Rattle.erst_commands.proofs.OpenLemmas.{IsOn, offset_device, clearing_device
 use Rattle.erst_commands.proofs.EnoughLemmas.{HasSteps, has_steps, enough-most}
 use Rattle.erst_commands.proofs.PutLemmas.{has_put}
 use Rattle.erst_commands.proofs.BusyLemmas.{StartsFinite, starts_finite, WaitsThrough, waits_through}
+use Rattle.erst_client.proofs.Terms.{counted as count_answer, named as next_answer}
 
 -- Answers that are neither a stop nor late
 

@@ -5,7 +5,6 @@ use Rattle.base_model.specs.Faults.{Rose}
 use Rattle.record_model.specs.Records.{is_reserved}
 use Rattle.record_model.specs.RecordMap.{Command, Refusal, Failed as refused_for_good, NoSpace as no_space, NotFound as not_found, Empty as empty, refusal_of, after, changes_of}
 use Rattle.record_store.specs.Store.{Idle, DividesAlike, abandoned, KeepsOrMakes, stored}
-use Rattle.cper_frame.specs.Reading.{id_place}
 use Rattle.record_store.specs.Answers.{copies_of}
 use Rattle.erst_interp.specs.declared.stops.RunStop.TheVariants.{Budget}
 use Rattle.erst_client.specs.declared.errors.ClientError.{ClientError}
@@ -33,7 +32,7 @@ pub record HoldsRecord (range : List ℕ) (id : ℕ) (bytes : List ℕ) : Type 0
   pub within : length bytes ≤ length range
   pub least : 128 ≤ length bytes
   pub size : number_at bytes 20 4 ≡ length bytes
-  pub name : number_at bytes id_place 8 ≡ id
+  pub name : number_at bytes 96 8 ≡ id
 
 -- whatever is answered: power lost on the way leaves the records from before the command or after it, it makes no more changes than
 -- its own and one for a second copy, nothing is pending, the cursor stays, and beside the device only the waits are others

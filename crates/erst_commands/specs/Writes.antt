@@ -2,7 +2,6 @@
 use Rattle.std.specs.Prelude.{◌≡◌, ℕ, List, codes, Some, None, Result, Err}
 use Rattle.base_model.specs.Bytes.{number_at, put_at}
 use Rattle.record_model.specs.RecordMap.{Write}
-use Rattle.cper_frame.specs.Reading.{id_place}
 use Rattle.erst_client.specs.declared.errors.ClientError.{ClientError}
 use Rattle.erst_client.specs.Commands.{write_refusal}
 use Rattle.erst_client.specs.Sequences.{write_requests}
@@ -16,7 +15,7 @@ marked bytes = put_at bytes 108 (codes "ER")
 
 -- the identifier that a record's header says
 abbrev pub id_of : List ℕ → ℕ
-id_of bytes = number_at bytes id_place 8
+id_of bytes = number_at bytes 96 8
 
 -- bytes that are no one record, or too long, are refused before all else; those of a record are put at the start of the log range, marked,
 -- and written as the map does

@@ -1,7 +1,7 @@
 -- An entry is its 32 bytes.
 use Rattle.std.proofs.Common.{◌≡◌, ℕ, ◌+◌, ◌<◌, ◌≤◌, ◌^◌, List, [], ◌∷◌, ◌++◌, length, map, get_or, refl, sym, ap, ◌∙◌, arith, append-nil}
 use Rattle.std.proofs.lemmas.List.{drop_all}
-use Rattle.base_model.specs.Bytes.{part, number_at, little, spelled, put_at, joined, total, AreBytes}
+use Rattle.base_model.specs.Bytes.{part, number_at, little, spelled, put_at, joined, AreBytes}
 use Rattle.base_model.proofs.BytesLemmas.{spelled-number_at, little-spelled, length-spelled, part-whole, length-joined}
 use Rattle.apei_tables.specs.declared.structure.Gas.{Gas}
 use Rattle.apei_tables.specs.GasLayout.{spelling as gas_spelling}
@@ -10,6 +10,7 @@ use Rattle.apei_bytes.proofs.Parts.{parts, joined-parts, parts-joined, part-cons
 use Rattle.apei_bytes.proofs.Puts.{put_fields, put_fields-joined}
 use Rattle.erst_entries.specs.declared.entries.Entry.{Entry}
 use Rattle.erst_entries.specs.Layout.{entry_spelling, IsEntry}
+use Rattle.base_model.proofs.Terms.{total}
 
 abbrev entry_fields : Entry → List (List ℕ)
 entry_fields entry =

@@ -1,3 +1,4 @@
+pub mod Terms
 pub mod Listing
 pub mod EntryBytes
 pub mod TableBytes

@@ -1,7 +1,7 @@
 -- A table is its header, three numbers and its entries.
 use Rattle.std.proofs.Common.{◌≡◌, ℕ, ◌+◌, ◌*◌, ◌%◌, ◌<◌, ◌^◌, List, [], ◌∷◌, ◌++◌, length, take, map, get_or, sum, refl, sym, ap, ◌∙◌, arith, append-nil, append_assoc, length-append, drop-cons, take-add}
 use Rattle.std.proofs.lemmas.List.Sums.{sum_by-append}
-use Rattle.base_model.specs.Bytes.{part, number_at, spelled, put_at, total}
+use Rattle.base_model.specs.Bytes.{part, number_at, spelled, put_at}
 use Rattle.base_model.proofs.BytesLemmas.{length-spelled, part-append}
 use Rattle.apei_tables.specs.Layout.{spelling as header_spelling, HasSizes}
 use Rattle.apei_tables.specs.Tables.{IsSealed}
@@ -11,6 +11,7 @@ use Rattle.erst_entries.specs.declared.entries.Entry.{Entry}
 use Rattle.erst_entries.specs.Layout.{Erst, AreEntries, IsEntry, entry_spelling, entries_spelling, front_spelling, spelling}
 use Rattle.erst_entries.specs.Tables.{AreRead}
 use Rattle.erst_entries.proofs.EntryBytes.{length-entry, put_at-all}
+use Rattle.base_model.proofs.Terms.{total}
 
 -- the front's fields, put one after another
 pub put-front : (out : List ℕ) (erst : Erst) → length out ≡ 48 → HasSizes erst.header →

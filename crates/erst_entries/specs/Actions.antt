@@ -25,20 +25,14 @@ code_of action = elim action [
   | GetExecuteOperationTimings ↦ 0x10
 ]
 
--- in the order of their codes, from 0 on
-abbrev pub actions : List (Option Action)
-actions =
+-- the action of a code: they stand in the order of their codes, from 0 on
+abbrev pub action_of : ℕ → Option Action
+action_of code =
+    elim (slice_get (
     Some BeginWriteOperation ∷ Some BeginReadOperation ∷ Some BeginClearOperation ∷ Some EndOperation ∷ Some SetRecordOffset ∷ Some ExecuteOperation
     ∷ Some CheckBusyStatus ∷ Some GetCommandStatus ∷ Some GetRecordIdentifier ∷ Some SetRecordIdentifier ∷ Some GetRecordCount
     ∷ Some BeginDummyWriteOperation ∷ None ∷ Some GetErrorLogAddressRange ∷ Some GetErrorLogAddressRangeLength
-    ∷ Some GetErrorLogAddressRangeAttributes ∷ Some GetExecuteOperationTimings ∷ []
-
-abbrev pub listed : Option (Option Action) → Option Action
-listed None = None
-listed (Some place) = place
-
-abbrev pub action_of : ℕ → Option Action
-action_of code = listed (slice_get actions code)
+    ∷ Some GetErrorLogAddressRangeAttributes ∷ Some GetExecuteOperationTimings ∷ []) code) [ None ↦ None | Some place ↦ place ]
 
 abbrev pub action_name : Action → List ℕ
 action_name action = elim action [

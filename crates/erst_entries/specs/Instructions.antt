@@ -3,14 +3,12 @@ use Rattle.std.specs.Prelude.{ℕ, List, [], ◌∷◌, Option, slice_get, codes
 use Rattle.erst_entries.specs.declared.instructions.Instruction.{Instruction}
 use Rattle.erst_entries.specs.declared.instructions.Instruction.TheVariants.{ReadRegister, ReadRegisterValue, WriteRegister, WriteRegisterValue, Noop, LoadVar1, LoadVar2, StoreVar1, Add, Subtract, AddValue, SubtractValue, Stall, StallWhileTrue, SkipNextIfTrue, Goto, SetSourceBase, SetTargetBase, MoveData}
 
--- in the order of their codes, from 0 on
-abbrev pub instructions : List Instruction
-instructions =
-    ReadRegister ∷ ReadRegisterValue ∷ WriteRegister ∷ WriteRegisterValue ∷ Noop ∷ LoadVar1 ∷ LoadVar2 ∷ StoreVar1 ∷ Add ∷ Subtract
-    ∷ AddValue ∷ SubtractValue ∷ Stall ∷ StallWhileTrue ∷ SkipNextIfTrue ∷ Goto ∷ SetSourceBase ∷ SetTargetBase ∷ MoveData ∷ []
-
+-- the instruction of a code: they stand in the order of their codes, from 0 on
 abbrev pub instruction_of : ℕ → Option Instruction
-instruction_of code = slice_get instructions code
+instruction_of code =
+    slice_get (
+    ReadRegister ∷ ReadRegisterValue ∷ WriteRegister ∷ WriteRegisterValue ∷ Noop ∷ LoadVar1 ∷ LoadVar2 ∷ StoreVar1 ∷ Add ∷ Subtract
+    ∷ AddValue ∷ SubtractValue ∷ Stall ∷ StallWhileTrue ∷ SkipNextIfTrue ∷ Goto ∷ SetSourceBase ∷ SetTargetBase ∷ MoveData ∷ []) code
 
 abbrev pub instruction_name : Instruction → List ℕ
 instruction_name = elim [

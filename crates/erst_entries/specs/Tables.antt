@@ -1,5 +1,5 @@
 -- Which bytes are an Error Record Serialization Table, and what is said of those that are none.
-use Rattle.std.specs.Prelude.{◌≡◌, ℕ, ◌+◌, ◌*◌, ◌⊎◌, ◌==◌, ◌||◌, not, if◌then◌else◌, List, [], ◌∷◌, length, Option, Some, None, Result, MatchResult}
+use Rattle.std.specs.Prelude.{◌≡◌, ℕ, ◌+◌, ◌*◌, ◌⊎◌, ◌==◌, ◌||◌, not, if◌then◌else◌, List, [], ◌∷◌, length, Option, Some, None}
 use Rattle.base_model.specs.Bytes.{part, number_at}
 use Rattle.apei_tables.specs.declared.headers.Header.{Header}
 use Rattle.apei_tables.specs.Tables.{IsSealed, FindsTable, refusal as table_refusal}
@@ -52,13 +52,6 @@ IsRefusal bytes (Table error) = refusal bytes ≡ Some (Table error)
 IsRefusal bytes (HeaderSize found) = refusal bytes ≡ Some (HeaderSize found)
 IsRefusal bytes (Count found size) = refusal bytes ≡ Some (Count found size)
 IsRefusal bytes Memory = refusal bytes ≡ None
-
-abbrev pub Refuses : List ℕ → Result (Erst × ℕ) ErstError → Type 0
-Refuses bytes result = MatchResult result (λ _. refusal bytes ≡ None) (IsRefusal bytes)
-
--- the answer is this table and its length, or want of memory
-abbrev pub Gives : Erst → ℕ → Result (Erst × ℕ) ErstError → Type 0
-Gives erst size result = MatchResult result (λ found. (found.0 ≡ erst) × (found.1 ≡ size)) (λ error. error ≡ Memory)
 
 -- the count, the length and the checksum are set, and all else is kept
 pub record Finished (old new : Erst) : Type 0 where

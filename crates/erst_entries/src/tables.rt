@@ -6,7 +6,8 @@ ghost use Rattle.apei_tables.specs.Tables.{IsSealed};
 ghost use Rattle.erst_entries.specs.Layout.{Erst, FitsErst, AreEntries, entries_spelling, front_spelling, spelling};
 ghost use Rattle.erst_entries.specs.Programs.{program_of};
 ghost use Rattle.erst_entries.specs.Groups.{Kept};
-ghost use Rattle.erst_entries.specs.Tables.{IsErst, FindsErst, AreRead, refusal, Refuses, Gives, Finished};
+ghost use Rattle.erst_entries.specs.Tables.{IsErst, FindsErst, AreRead, refusal, IsRefusal, Finished};
+ghost use Rattle.erst_entries.specs.declared.tables.ErstError.TheVariants.{Memory};
 
 use crate::entries::{ENTRY, Entry};
 use crate::groups::{ACTIONS, group, start_of};
@@ -66,8 +67,8 @@ impl ErstTable {
         ensures found { IfOk result (λ found. IsErst found.0 (take found.1 bytes.now) × FitsErst found.0
             × (found.1 ≤ length bytes.now)) }
         ensures only { (erst : Erst) (table rest : List ℕ) → bytes.now ≡ table ++ rest → FitsErst erst
-            → IsErst erst table → Gives erst (length table) result }
-        ensures refused { Refuses bytes.now result }
+            → IsErst erst table → MatchResult result (λ found. (found.0 ≡ erst) × (found.1 ≡ length table)) (λ error. error ≡ Memory) }
+        ensures refused { MatchResult result (λ _. refusal bytes.now ≡ None) (IsRefusal bytes.now) }
     {
         let (header, table) = match check(bytes) {
             Ok(found) => found,

@@ -1,3 +1,4 @@
+pub mod Terms
 pub mod Rules
 mod WorkLemmas
 mod Walking

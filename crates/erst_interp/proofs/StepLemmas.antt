@@ -14,9 +14,10 @@ use Rattle.erst_interp.specs.declared.configurations.Task.{Task}
 use Rattle.erst_interp.specs.declared.stops.RunStop.{RunStop}
 use Rattle.erst_interp.specs.declared.stops.RunStop.TheVariants.{Budget, Goto as GotoOutside, MoveTooLong, Space}
 use Rattle.erst_interp.specs.Instructions.{Work, GoOn, GoTo, WaitFor, TakeField, StoreValue, ChangeField, CompareField, MoveBytes, work_of, HasWork, uses_register, reads_first}
-use Rattle.erst_interp.specs.Configurations.{next, compared}
+use Rattle.erst_interp.specs.Configurations.{next}
 use Rattle.erst_interp.specs.Accesses.{FieldRead, Store}
-use Rattle.erst_interp.specs.Steps.{move_limit, blocks, copy_of, Step, Computes, Goes, Stalls, Takes, Stores, Changes, Compares, Moves, Refusal, NotRead, NotCompared, NotStored, NotChanged, Halt, Unknown, Unregistered, Outside, IsRefused, TooLong, Unpaid, NotCopied}
+use Rattle.erst_interp.specs.Steps.{blocks, Step, Computes, Goes, Stalls, Takes, Stores, Changes, Compares, Moves, Refusal, NotRead, NotCompared, NotStored, NotChanged, Halt, Unknown, Unregistered, Outside, IsRefused, TooLong, Unpaid, NotCopied}
+use Rattle.erst_interp.proofs.Terms.{move_limit, copy_of, compared}
 
 -- an entry has one instruction, and so one work
 pub the_work : (task : Task) (i : Instruction) (work : Work) → instruction_of task.entry.code ≡ Some i → HasWork task work → work ≡ work_of task i

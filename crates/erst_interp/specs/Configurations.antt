@@ -1,5 +1,5 @@
 -- What a run keeps from one instruction to the next.
-use Rattle.std.specs.Prelude.{◌+◌, if◌then◌else◌, Bool, true, false, None}
+use Rattle.std.specs.Prelude.{◌+◌, false, None}
 use Rattle.erst_interp.specs.declared.configurations.Configuration.{Configuration}
 
 -- place 0, no result, and zeros
@@ -9,7 +9,3 @@ begin = record { place = 0; result = None; var1 = 0; var2 = 0; source = 0; targe
 -- the next place, and not stalling
 abbrev pub next : Configuration → Configuration
 next c = record c { place = c.place + 1; stalling = false }
-
--- where STALL_WHILE_TRUE goes on after a comparison: it stays while its field is equal, and waits before it compares again
-abbrev pub compared : Bool → Configuration → Configuration
-compared equal c = if equal then record c { stalling = true } else next c

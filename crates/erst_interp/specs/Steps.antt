@@ -1,6 +1,6 @@
 -- One instruction, over any space (ACPI 6.4, section 18.5.1.2). `allows` relates the space before a call, the call with its
 -- answer, and the space after it.
-use Rattle.std.specs.Prelude.{◌≡◌, ℕ, ◌+◌, ◌-◌, ◌/◌, ◌%◌, ◌^◌, ◌<◌, ◌≤◌, ◌==◌, true, false, None, Result, Ok, Err}
+use Rattle.std.specs.Prelude.{◌≡◌, ℕ, ◌+◌, ◌-◌, ◌/◌, ◌%◌, ◌^◌, ◌<◌, ◌≤◌, ◌==◌, true, false, None, Result, Ok, Err, if◌then◌else◌}
 use Rattle.apei_tables.specs.declared.registers.Register.{Register}
 use Rattle.apei_tables.specs.declared.registers.BadRegister.{BadRegister}
 use Rattle.apei_tables.specs.Check.{checked}
@@ -12,12 +12,8 @@ use Rattle.erst_interp.specs.declared.configurations.Task.{Task}
 use Rattle.erst_interp.specs.declared.stops.RunStop.{RunStop}
 use Rattle.erst_interp.specs.declared.stops.RunStop.TheVariants.{Register as BadRegion, UnknownInstruction, Goto as GotoOutside, MoveTooLong, Space, Budget}
 use Rattle.erst_interp.specs.Instructions.{Work, GoOn, GoTo, WaitFor, TakeField, StoreValue, ChangeField, CompareField, MoveBytes, HasWork, uses_register, reads_first}
-use Rattle.erst_interp.specs.Configurations.{next, compared}
+use Rattle.erst_interp.specs.Configurations.{next}
 use Rattle.erst_interp.specs.Accesses.{FieldRead, Store}
-
--- the longest MOVE_DATA, in bytes
-abbrev pub move_limit : ℕ
-move_limit = 65536
 
 -- the steps that a MOVE_DATA takes besides its first: one for each 64 bytes or part of 64
 abbrev pub blocks : ℕ → ℕ
@@ -28,11 +24,8 @@ pub data Waited {W : Type 0} (allows : W → Call → W → Type 0) (c : Configu
   AtOnce : c.stalling ≡ false → Waited allows c old old
   After : (new : W) → c.stalling ≡ true → allows old (Wait c.var1) new → Waited allows c old new
 
--- the copy of a MOVE_DATA whose field is x
-abbrev pub copy_of : Configuration → ℕ → Result (Unit {0}) SpaceFault → Call
-copy_of c x answer = Copy ((c.source + x) % 2 ^ 64) ((c.target + x) % 2 ^ 64) c.var2 answer
-
--- the instruction is carried out: the configuration after it, the steps besides the first, and the space after it
+-- the instruction is carried out: the configuration after it, the steps besides the first, and the space after it. A MOVE_DATA moves
+-- 65536 bytes at most, and STALL_WHILE_TRUE stays while its field is equal
 pub data Step {W : Type 0} (allows : W → Call → W → Type 0) (task : Task) (old : W) : Configuration → ℕ → W → Type 0 where
   Computes : (d : Configuration) → HasWork task (GoOn d) → Step allows task old d 0 old
   Goes : (to : ℕ) → HasWork task (GoTo to) → to < task.len → Step allows task old (record (next task.at) { place = to }) 0 old
@@ -44,9 +37,11 @@ pub data Step {W : Type 0} (allows : W → Call → W → Type 0) (task : Task) 
   Changes : (changed : ℕ → ℕ) (register : Register) (x : ℕ) (mid new : W) → HasWork task (ChangeField changed) → checked task.entry.region ≡ Ok register →
       FieldRead allows register task.entry.mask old (Ok x) mid → Store allows register task.entry (changed x) mid (Ok tt) new → Step allows task old (next task.at) 0 new
   Compares : (register : Register) (x : ℕ) (mid new : W) → HasWork task CompareField → checked task.entry.region ≡ Ok register →
-      Waited allows task.at old mid → FieldRead allows register task.entry.mask mid (Ok x) new → Step allows task old (compared (x == task.entry.value) task.at) 0 new
+      Waited allows task.at old mid → FieldRead allows register task.entry.mask mid (Ok x) new →
+      Step allows task old (if x == task.entry.value then record task.at { stalling = true } else next task.at) 0 new
   Moves : (register : Register) (x : ℕ) (mid new : W) → HasWork task MoveBytes → checked task.entry.region ≡ Ok register →
-      FieldRead allows register task.entry.mask old (Ok x) mid → task.at.var2 ≤ move_limit → allows mid (copy_of task.at x (Ok tt)) new →
+      FieldRead allows register task.entry.mask old (Ok x) mid → task.at.var2 ≤ 65536 →
+      allows mid (Copy ((task.at.source + x) % 2 ^ 64) ((task.at.target + x) % 2 ^ 64) task.at.var2 (Ok tt)) new →
       Step allows task old (next task.at) (blocks task.at.var2) new
 
 -- an access of the instruction is refused, but for the copy of a MOVE_DATA
@@ -79,11 +74,13 @@ pub data Halt {W : Type 0} (allows : W → Call → W → Type 0) (task : Task) 
   Outside : (to : ℕ) → HasWork task (GoTo to) → task.len ≤ to → Halt allows task paid old (GotoOutside task.at.place to) paid old
   IsRefused : (fault : SpaceFault) (new : W) → Refusal allows task old fault new → Halt allows task paid old (Space task.at.place fault) paid new
   TooLong : (register : Register) (x : ℕ) (new : W) → HasWork task MoveBytes → checked task.entry.region ≡ Ok register →
-      FieldRead allows register task.entry.mask old (Ok x) new → move_limit < task.at.var2 → Halt allows task paid old (MoveTooLong task.at.place task.at.var2) paid new
+      FieldRead allows register task.entry.mask old (Ok x) new → 65536 < task.at.var2 →
+      Halt allows task paid old (MoveTooLong task.at.place task.at.var2) paid new
   Unpaid : (register : Register) (x : ℕ) (new : W) → HasWork task MoveBytes → checked task.entry.region ≡ Ok register →
-      FieldRead allows register task.entry.mask old (Ok x) new → task.at.var2 ≤ move_limit → paid < blocks task.at.var2 → Halt allows task paid old Budget 0 new
+      FieldRead allows register task.entry.mask old (Ok x) new → task.at.var2 ≤ 65536 → paid < blocks task.at.var2 → Halt allows task paid old Budget 0 new
   NotCopied : (register : Register) (x : ℕ) (fault : SpaceFault) (mid new : W) → HasWork task MoveBytes → checked task.entry.region ≡ Ok register →
-      FieldRead allows register task.entry.mask old (Ok x) mid → task.at.var2 ≤ move_limit → blocks task.at.var2 ≤ paid → allows mid (copy_of task.at x (Err fault)) new →
+      FieldRead allows register task.entry.mask old (Ok x) mid → task.at.var2 ≤ 65536 → blocks task.at.var2 ≤ paid →
+      allows mid (Copy ((task.at.source + x) % 2 ^ 64) ((task.at.target + x) % 2 ^ 64) task.at.var2 (Err fault)) new →
       Halt allows task paid old (Space task.at.place fault) (paid - blocks task.at.var2) new
 
 -- what an instruction does with the steps that are left after its first

@@ -1,6 +1,6 @@
 // What a run keeps from one instruction to the next.
-ghost use Rattle.std.specs.Prelude.{◌≡◌, ◌<◌, ◌≤◌, ◌^◌};
-ghost use Rattle.erst_interp.specs.Configurations.{begin, next, compared};
+ghost use Rattle.std.specs.Prelude.{◌≡◌, ◌<◌, ◌≤◌, ◌^◌, if◌then◌else◌, true};
+ghost use Rattle.erst_interp.specs.Configurations.{begin, next};
 
 use erst_entries::Entry;
 
@@ -48,7 +48,7 @@ impl Configuration {
     /// Where STALL_WHILE_TRUE goes on after a comparison.
     pub fn compared(self, equal: bool) -> Configuration
         requires { self.place < 2 ^ 63 }
-        ensures { result ≡ compared equal self }
+        ensures { result ≡ (if equal then record self { stalling = true } else next self) }
     {
         if equal {
             Configuration {

@@ -4,7 +4,8 @@ use Rattle.std.specs.Prelude.{slice_get}
 use Rattle.std.proofs.lemmas.Option.{none-some, same_Some}
 use Rattle.erst_entries.specs.declared.instructions.Instruction.{Instruction}
 use Rattle.erst_entries.specs.declared.instructions.Instruction.TheVariants.{ReadRegister, ReadRegisterValue, WriteRegister, WriteRegisterValue, Noop, LoadVar1, LoadVar2, StoreVar1, Add, Subtract, AddValue, SubtractValue, Stall, StallWhileTrue, SkipNextIfTrue, Goto, SetSourceBase, SetTargetBase, MoveData}
-use Rattle.erst_entries.specs.Instructions.{instructions, instruction_of}
+use Rattle.erst_entries.specs.Instructions.{instruction_of}
+use Rattle.erst_entries.proofs.Terms.{instructions}
 
 abbrev place_of : Instruction → ℕ
 place_of ReadRegister = 0

@@ -25,7 +25,7 @@ use Rattle.erst_client.specs.declared.errors.AttachError.TheVariants.{NoRange}
 use Rattle.erst_client.specs.declared.requests.Request.{Request}
 use Rattle.erst_client.specs.Requests.{Asks, Performs}
 use Rattle.erst_client.specs.Commands.{ClientState}
-use Rattle.erst_client.specs.Attaching.{Attaches, attach_requests, attached, client_of}
+use Rattle.erst_client.specs.Attaching.{Attaches, attach_requests}
 use Rattle.erst_device.specs.DeviceState.{DeviceState}
 use Rattle.erst_device.specs.Timings.{most_changes, timings_of}
 use Rattle.erst_client.specs.Steps.{steps_of}
@@ -46,6 +46,7 @@ use Rattle.erst_shadow.specs.ShadowCommands.{pieces_in, shadow_client, AttachesS
 use Rattle.erst_shadow.proofs.MoveLemmas.{put, value, place_in, register_low, register_read, register_written}
 use Rattle.erst_shadow.proofs.ProgramLemmas.{performs_own}
 use Rattle.erst_shadow.proofs.CommandLemmas.{holds_pieces}
+use Rattle.erst_client.proofs.Terms.{client_of, attached}
 
 abbrev register_at : MoveRegister → Register
 register_at r = record { place = Memory (address_of r); access = B64; offset = 0 }

@@ -9,7 +9,7 @@ use Rattle.apei_tables.specs.declared.registers.Place.TheVariants.{Memory}
 use Rattle.apei_space.specs.declared.faults.SpaceFault.{SpaceFault}
 use Rattle.apei_space.specs.declared.windows.Window.{Window}
 use Rattle.apei_space.specs.Windows.{location, AreApart as WindowsApart}
-use Rattle.apei_space.specs.RamState.{RamState, Allows, located, found, refused, within, number_in, answer_of, stored, copied}
+use Rattle.apei_space.specs.RamState.{RamState, Allows, located, found, refused, number_in, answer_of, stored, copied}
 use Rattle.apei_space.proofs.Locations.{location_fits}
 use Rattle.apei_space.proofs.Placed.{location_further}
 use Rattle.erst_interp.specs.declared.stops.RunStop.{RunStop}
@@ -22,6 +22,7 @@ use Rattle.erst_shadow.specs.MoveSpaces.{ServesMove, after_rounds}
 use Rattle.erst_shadow.specs.MoveRuns.{move_then, move_steps, standing, WalkFrom, Begun, Then, Finishes, Exhausted, Halts, MovesOn, StopsWithin}
 use Rattle.erst_shadow.specs.PlainMoves.{ShareNone, Places, HoldsMove, HasCopied, MoveRun, CopiesOrStops, Copies, RunsShort}
 use Rattle.erst_shadow.proofs.RunLemmas.{moves_first}
+use Rattle.apei_space.proofs.Terms.{within}
 
 -- Parts of bytes in which others are put
 

@@ -12,7 +12,7 @@ use Rattle.erst_client.specs.declared.errors.ClientError.{ClientError}
 use Rattle.erst_client.specs.declared.errors.ClientError.TheVariants.{Stopped, Late}
 use Rattle.erst_client.specs.declared.requests.Request.{Request}
 use Rattle.erst_client.specs.Requests.{Performs, Asks, NoneLeft, Answered, StopsLater, StopsHere}
-use Rattle.erst_client.specs.Sequences.{Pauses, Untimed, Timed, TooOften, Busy, NotYet, Again, Waits, IsIdle, IsStopped, IsLate, judged, closed, end_steps, UntilStatus, NotAsked, NotWaited, NotTold, IsTold, Sequence, write_requests, read_requests, clear_requests, dummy_requests}
+use Rattle.erst_client.specs.Sequences.{Pauses, Untimed, Timed, TooOften, Busy, NotYet, Again, Waits, IsIdle, IsStopped, IsLate, judged, UntilStatus, NotAsked, NotWaited, NotTold, IsTold, Sequence, write_requests, read_requests, clear_requests, dummy_requests}
 use Rattle.erst_machine.specs.Memories.{MemoryState}
 use Rattle.erst_machine.specs.MachineState.{MachineState}
 use Rattle.erst_machine.specs.Allowed.{Allows, ActsOn}
@@ -25,6 +25,7 @@ use Rattle.erst_shadow.specs.ShadowSequences.{IsCutShort, PaysMoves, PaysBoth, P
 use Rattle.erst_shadow.proofs.ProgramLemmas.{IsCommon, performs_own, moves_then_executes, moves_then_tells}
 use Rattle.erst_shadow.proofs.OwnRunLemmas.{IsOfSequence, run_of_own}
 use Rattle.erst_shadow.proofs.QuietLemmas.{IsQuiet, runs_beside, with_other_steps}
+use Rattle.erst_client.proofs.Terms.{closed, end_steps}
 
 -- a request before EXECUTE_OPERATION: the machine's own program, which leaves the log range alone
 abbrev pub IsBefore : Request → Type 0

@@ -3,7 +3,7 @@ use Rattle.std.proofs.Common.{◌≡◌, ℕ, ◌+◌, ◌-◌, ◌<◌, ◌≤�
 use Rattle.std.specs.Prelude.{◌==◌, nat_lt}
 use Rattle.std.proofs.lemmas.Bool.{cases_Bool, eqb-true, eqb-false, ltb-false, eq-eqb, ne_eqb, le-ltb, cond-true, cond-false}
 use Rattle.std.proofs.lemmas.List.{nil_from_length}
-use Rattle.base_model.specs.Bytes.{part, number_at, spelled, joined, total, AreBytes}
+use Rattle.base_model.specs.Bytes.{part, number_at, spelled, joined, AreBytes}
 use Rattle.base_model.proofs.BytesLemmas.{spelled-number_at, number_at-lt, length-part, length-part-le, part-append, part-append_left, AreBytes-part, length-joined}
 use Rattle.apei_bytes.proofs.Parts.{parts, joined-parts, parts_of, number_of, part-second, number_at-front, part-append-drop}
 use Rattle.apei_bytes.proofs.Tests.{ok_unless}
@@ -20,6 +20,7 @@ use Rattle.ghes_block.proofs.Terms.{raw_length}
 use Rattle.ghes_block.proofs.Terms.{raw_offset}
 use Rattle.ghes_block.proofs.Terms.{status_at}
 use Rattle.ghes_block.proofs.Walks.{counts, counts_again}
+use Rattle.base_model.proofs.Terms.{total}
 
 -- how long the block is, by its head
 abbrev pub length_by : ℕ → ℕ → ℕ → ℕ

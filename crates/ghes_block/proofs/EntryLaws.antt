@@ -1,12 +1,13 @@
 -- One entry: what is read of it is spelled so, and what is spelled so is read again.
 use Rattle.std.proofs.Common.{◌≡◌, ℕ, ◌+◌, ◌<◌, ◌≤◌, ◌^◌, Bool, true, false, cond, List, [], ◌∷◌, ◌++◌, length, map, get_or, refl, sym, ap, subst, ◌∙◌, arith, length-append, append_assoc}
 use Rattle.std.proofs.lemmas.List.{append-nil}
-use Rattle.base_model.specs.Bytes.{part, number_at, spelled, joined, total, AreBytes}
+use Rattle.base_model.specs.Bytes.{part, number_at, spelled, joined, AreBytes}
 use Rattle.base_model.proofs.BytesLemmas.{length-spelled, spelled-number_at, number_at-lt, length-part, part-append, part-append_left, part-append_right, length-joined}
 use Rattle.apei_bytes.proofs.Parts.{parts, joined-parts, parts_of, number_of, part-first, part-second}
 use Rattle.ghes_block.specs.declared.entry.EntryHead.{EntryHead}
 use Rattle.ghes_block.specs.Grammar.{EntryValue, is_stamped, entry_front, entry_bytes, IsEntryHead, IsEntry}
 use Rattle.ghes_block.specs.Reading.{entry_size, entry_head_at, first_entry}
+use Rattle.base_model.proofs.Terms.{total}
 
 abbrev pub front_sizes : List ℕ
 front_sizes = 16 ∷ 4 ∷ 2 ∷ 1 ∷ 1 ∷ 4 ∷ 16 ∷ 20 ∷ []

@@ -1,7 +1,7 @@
 -- One structure: what is read of it is spelled so, and what is spelled so is read again.
 use Rattle.std.proofs.Common.{◌≡◌, ℕ, ◌+◌, ◌<◌, ◌≤◌, ◌^◌, if◌then◌else◌, ◌==◌, List, [], ◌∷◌, ◌++◌, length, map, get_or, Option, Some, None, IfSome, refl, sym, ap, subst, ◌∙◌, arith, length-append, append_assoc}
 use Rattle.std.proofs.lemmas.List.{append-nil}
-use Rattle.base_model.specs.Bytes.{part, number_at, spelled, joined, total, AreBytes}
+use Rattle.base_model.specs.Bytes.{part, number_at, spelled, joined, AreBytes}
 use Rattle.base_model.proofs.BytesLemmas.{spelled-number_at, number_at-lt, length-part, part-part, part-append, part-append_right, part-whole, length-joined, AreBytes-part}
 use Rattle.apei_bytes.proofs.Parts.{parts, joined-parts, parts_of, number_of, part-first}
 use Rattle.apei_bytes.specs.Writing.{Wrote}
@@ -11,8 +11,8 @@ use Rattle.apei_tables.specs.GasLayout.{spelling, IsGas}
 use Rattle.hest_sources.specs.declared.sources.Ghes.{Ghes}
 use Rattle.hest_sources.specs.declared.sources.Ack.{Ack}
 use Rattle.hest_sources.specs.Layout.{type_of, size_of, ghes_fields, ghes_bytes, IsGhes, gas_at, front_at}
-use Rattle.hest_sources.proofs.Terms.{ack_at, IsAck}
-use Rattle.hest_sources.proofs.Terms.{ack_bytes}
+use Rattle.hest_sources.proofs.Terms.{ack_at, IsAck, ack_bytes}
+use Rattle.base_model.proofs.Terms.{total}
 
 -- registers
 gas_fields : Gas → List (List ℕ)

@@ -12,7 +12,7 @@ use Rattle.erst_client.specs.declared.errors.AttachError.TheVariants.{NoRange}
 use Rattle.erst_client.specs.declared.requests.Request.{Request}
 use Rattle.erst_client.specs.Requests.{Performs, Asks}
 use Rattle.erst_client.specs.Commands.{ClientState}
-use Rattle.erst_client.specs.Attaching.{attach_requests, attached, client_of}
+use Rattle.erst_client.specs.Attaching.{attach_requests}
 use Rattle.erst_device.specs.DeviceState.{DeviceState}
 use Rattle.erst_device.specs.Actions.{told_by, Acts, log_range_at}
 use Rattle.erst_device.specs.Timings.{timings_of, most_changes}
@@ -29,6 +29,7 @@ use Rattle.port_laws.specs.PortClients.{port_client, telling, AttachesPort}
 use Rattle.port_laws.proofs.PlaceLemmas.{apart_says}
 use Rattle.port_laws.proofs.AccessLemmas.{Takes, left_is}
 use Rattle.port_laws.proofs.TellLemmas.{ToldRun, IsTold, StopsAtOnce, StopsBehind, told_run}
+use Rattle.erst_client.proofs.Terms.{client_of, attached}
 
 -- an action that changes VALUE alone
 abbrev Shows : (n : ℕ) (old mid : SpaceState) → Type 0

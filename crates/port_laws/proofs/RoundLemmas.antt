@@ -14,7 +14,7 @@ use Rattle.erst_entries.specs.Programs.{entries_of}
 use Rattle.erst_interp.specs.declared.stops.RunStop.{RunStop}
 use Rattle.erst_client.specs.declared.errors.ClientError.{ClientError}
 use Rattle.erst_client.specs.declared.errors.ClientError.TheVariants.{Hardware}
-use Rattle.erst_client.specs.Commands.{Names, named}
+use Rattle.erst_client.specs.Commands.{Names}
 use Rattle.erst_device.specs.StoreCalls.{FoundNext}
 use Rattle.erst_device.specs.DeviceState.{DeviceState, given_up, records}
 use Rattle.erst_device.specs.Actions.{found}
@@ -31,6 +31,7 @@ use Rattle.port_laws.specs.Looks.{NextRound, IsAbove, IsFirst, IsNone, IsNotFoun
 use Rattle.port_laws.proofs.AccessLemmas.{Takes}
 use Rattle.port_laws.proofs.TellLemmas.{ToldRun, IsTold, StopsAtOnce, StopsBehind, told_run}
 use Rattle.erst_device.proofs.Words.{IsAllowed}
+use Rattle.erst_client.proofs.Terms.{named}
 
 -- What a client makes of VALUE
 

@@ -1,8 +1,9 @@
 use Rattle.std.proofs.Common.{◌≡◌, cond, ℕ, Ok, Bool, Result, inl, inr, ap, arith}
 use Rattle.std.proofs.lemmas.Bool.{cases_eq, eq-eqb}
 use Rattle.apei_space.specs.Windows.{address_of, location}
-use Rattle.apei_space.specs.RamState.{within, found, refused}
+use Rattle.apei_space.specs.RamState.{found, refused}
 use Rattle.apei_space.proofs.Placed.{placed, placed_fits}
+use Rattle.apei_space.proofs.Terms.{within}
 use Rattle.apei_space.proofs.laws.mapped_bytes_are_found.Goals as goal
 
 pub returns : goal.returns

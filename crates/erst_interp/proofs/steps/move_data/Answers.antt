@@ -1,7 +1,8 @@
 use Rattle.std.proofs.Common.{◌≡◌, ◌≤◌, ◌+◌, refl, arith}
 use Rattle.std.proofs.lemmas.Bool.Decides.{nat_tests}
 use Rattle.erst_interp.specs.Instructions.{MoveBytes}
-use Rattle.erst_interp.specs.Steps.{IsRefused, NotRead, Stops, GoesOn, Moves, blocks, move_limit}
+use Rattle.erst_interp.specs.Steps.{IsRefused, NotRead, Stops, GoesOn, Moves, blocks}
+use Rattle.erst_interp.proofs.Terms.{move_limit}
 use Rattle.erst_interp.proofs.steps.move_data.Goals as goal
 
 pub returns-in-Err : goal.returns-in-Err

@@ -1,8 +1,9 @@
 use Rattle.std.proofs.Common.{◌≡◌, ℕ, List, [], None, ◌<◌, ◌^◌, sym, ap, subst, arith}
 use Rattle.std.specs.Prelude.{vec_capacity}
-use Rattle.cper_frame.specs.Stream.{IsReader, frame_by, frame_of}
+use Rattle.cper_frame.specs.Stream.{IsReader, frame_of}
 use Rattle.cper_frame.proofs.Streams.{nothing}
 use Rattle.cper_frame.proofs.Readers.{empty}
+use Rattle.cper_frame.proofs.Terms.{frame_by}
 use Rattle.cper_frame.proofs.reader.FrameReader.new.Goals as goal
 
 pub invariant_of-result : goal.invariant_of-result
