@@ -17,9 +17,10 @@ from pathlib import Path
 
 from apei import TOP
 
-HEAD = re.compile(r"^(?:pub )?(?:abbrev|unfoldable|record|data)(?: pub)? (\S+)|^pub (?:record|data) (\S+)", re.MULTILINE)
+HEAD = re.compile(r"^(?:pub )?(?:abbrev|unfoldable|record|data)(?: pub)? (?!pub\b|use\b)(\S+)", re.MULTILINE)
 USE = re.compile(r"(?:ghost )?use (Rattle[\w.]*)\.\{([^}]*)\}")
 NAME = re.compile(r"[^\s(){}\[\],;.:→λ×∷≡]+")
+COMMENT = re.compile(r"^\s*--.*$", re.MULTILINE)
 
 
 @dataclass
@@ -65,18 +66,18 @@ def definitions(crates: Path) -> Iterator[Definition]:
     for path in sorted(crates.glob("*/specs/*.antt")):
         module = f"Rattle.{path.parent.parent.name}.specs.{path.stem}"
         text = path.read_text()
-        heads = [match for match in HEAD.finditer(text) if (match[1] or match[2])]
+        heads = list(HEAD.finditer(text))
         uses = imports(text)
-        names = {match[1] or match[2] for match in heads}
+        names = {match[1] for match in heads}
         for match, following in zip(heads, [*heads[1:], None]):
             body = text[match.start() : following.start() if following else len(text)]
             own = {name: f"{module}.{name}" for name in names}
-            yield Definition(match[1] or match[2], module, body, {name: defined_at(key, given) for name, key in {**uses, **own}.items()})
+            yield Definition(match[1], module, body, {name: defined_at(key, given) for name, key in {**uses, **own}.items()})
 
 
 def named_in(text: str, uses: dict[str, str]) -> list[str]:
-    """What the names of a text stand for, in their order."""
-    return list(dict.fromkeys(uses[word] for word in NAME.findall(text) if word in uses))
+    """What the names of a text stand for, in their order. Its comments name nothing."""
+    return list(dict.fromkeys(uses[word] for word in NAME.findall(COMMENT.sub("", text)) if word in uses))
 
 
 def defined_at(key: str, given: dict[str, str]) -> str:

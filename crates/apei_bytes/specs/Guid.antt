@@ -10,15 +10,12 @@ abbrev pub digits : List ℕ → List ℕ
 digits [] = []
 digits (byte ∷ bytes) = digit (byte / 16 % 16) ∷ digit (byte % 16) ∷ digits bytes
 
-abbrev pub hyphen : ℕ
-hyphen = 45
-
 -- three numbers, which are stored with the low byte first and shown with the high one first, and the last eight bytes as they stand
 unfoldable pub guid_text : List ℕ → List ℕ
 guid_text guid =
     let byte = slice_index guid in
     digits (byte 3 ∷ byte 2 ∷ byte 1 ∷ byte 0 ∷ [])
-    ++ hyphen ∷ digits (byte 5 ∷ byte 4 ∷ [])
-    ++ hyphen ∷ digits (byte 7 ∷ byte 6 ∷ [])
-    ++ hyphen ∷ digits (byte 8 ∷ byte 9 ∷ [])
-    ++ hyphen ∷ digits (byte 10 ∷ byte 11 ∷ byte 12 ∷ byte 13 ∷ byte 14 ∷ byte 15 ∷ [])
+    ++ 45 ∷ digits (byte 5 ∷ byte 4 ∷ [])
+    ++ 45 ∷ digits (byte 7 ∷ byte 6 ∷ [])
+    ++ 45 ∷ digits (byte 8 ∷ byte 9 ∷ [])
+    ++ 45 ∷ digits (byte 10 ∷ byte 11 ∷ byte 12 ∷ byte 13 ∷ byte 14 ∷ byte 15 ∷ [])

@@ -1,5 +1,5 @@
 -- Sources and sinks that are held in memory: what their callers see.
-use Rattle.std.specs.Prelude.{ℕ, ◌+◌, ◌-◌, ◌^◌, List, min}
+use Rattle.std.specs.Prelude.{ℕ, ◌-◌, List}
 
 -- bytes that are read in pieces, and the numbers of the reads that fail
 pub record BytesToRead : Type 0 where
@@ -16,7 +16,3 @@ pub record BytesWritten : Type 0 where
   pub writes : ℕ
   pub faults : ℕ
   pub starved : ℕ
-
--- a count one higher, or at its last value
-abbrev pub counted : ℕ → ℕ
-counted n = min (n + 1) (2 ^ 64 - 1)

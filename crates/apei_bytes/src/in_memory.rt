@@ -1,7 +1,8 @@
 // A source and a sink that are held in memory, and fail where they are told to.
 ghost use Rattle.std.specs.Prelude.{◌≡◌, ◌⊎◌, ◌↔◌, ℕ, ◌+◌, ◌-◌, ◌^◌, ◌<◌, ◌≤◌, List, [], ◌++◌, length, take, drop, min, is_ok, if◌then◌else◌, IfOk, OnOk, MatchResult, IsErr, Contains};
 ghost use Rattle.base_model.specs.Faults.{HasCause, Rose};
-ghost use Rattle.apei_bytes.specs.Streams.{BytesToRead, BytesWritten, counted};
+ghost use Rattle.apei_bytes.specs.Streams.{BytesToRead, BytesWritten};
+ghost use Rattle.base_model.specs.Flash.{next_count};
 
 use super::streams::{ReadFailed, Sink, Source, WriteFailed};
 use std::alloc::Global;
@@ -65,8 +66,8 @@ impl Source for MemSource {
         requires { 0 < length buf.old }
         ensures fails { IsErr result ↔ Contains self.old.failing self.old.reads }
         ensures gives { IfOk result (λ n. n ≡ min (min self.old.piece (length buf.old)) (length self.old.rest)) }
-        ensures reads { self.new.reads ≡ counted self.old.reads }
-        ensures faults { self.new.faults ≡ (if is_ok result then self.old.faults else counted self.old.faults) }
+        ensures reads { self.new.reads ≡ next_count self.old.reads }
+        ensures faults { self.new.faults ≡ (if is_ok result then self.old.faults else next_count self.old.faults) }
         ensures settings { (self.new.piece ≡ self.old.piece) × (self.new.failing ≡ self.old.failing) }
 
         // What every source promises.
@@ -150,9 +151,9 @@ impl Sink for MemSink {
         ensures fails { IsErr result ↔ (Contains self.old.failing self.old.writes
             ⊎ Rose self.old.starved self.new.starved) }
         ensures all { IfOk result (λ n. n ≡ length bytes.now) }
-        ensures writes { self.new.writes ≡ counted self.old.writes }
-        ensures faults { self.new.faults ≡ (if is_ok result then self.old.faults else counted self.old.faults) }
-        ensures starved { (self.new.starved ≡ self.old.starved) ⊎ (self.new.starved ≡ counted self.old.starved) }
+        ensures writes { self.new.writes ≡ next_count self.old.writes }
+        ensures faults { self.new.faults ≡ (if is_ok result then self.old.faults else next_count self.old.faults) }
+        ensures starved { (self.new.starved ≡ self.old.starved) ⊎ (self.new.starved ≡ next_count self.old.starved) }
         ensures settings { self.new.failing ≡ self.old.failing }
 
         // What every sink promises.

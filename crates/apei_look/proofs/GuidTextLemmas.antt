@@ -4,7 +4,7 @@ use Rattle.std.specs.Prelude.{slice_index}
 use Rattle.std.specs.Str.{IsAscii, IsUtf8}
 use Rattle.std.proofs.lemmas.Str.{IsUtf8-from_ascii, IsAscii-append}
 use Rattle.std.proofs.lemmas.Bool.Decides.{nat_tests}
-use Rattle.apei_bytes.specs.Guid.{digit, digits, hyphen, guid_text}
+use Rattle.apei_bytes.specs.Guid.{digit, digits, guid_text}
 
 no_byte : IsAscii []
 no_byte i = lit< tt
@@ -22,8 +22,8 @@ digits_ascii (byte ∷ bytes) =
     one_more (digit (byte / 16 % 16)) (digit (byte % 16) ∷ digits bytes) (digit_low (byte / 16 % 16) (omega arith))
     (one_more (digit (byte % 16)) (digits bytes) (digit_low (byte % 16) (omega arith)) (digits_ascii bytes))
 
-and_group : (before bytes : List ℕ) → IsAscii before → IsAscii (before ++ hyphen ∷ digits bytes)
-and_group before bytes ascii = IsAscii-append before (hyphen ∷ digits bytes) ascii (one_more hyphen (digits bytes) (lit< tt) (digits_ascii bytes))
+and_group : (before bytes : List ℕ) → IsAscii before → IsAscii (before ++ 45 ∷ digits bytes)
+and_group before bytes ascii = IsAscii-append before (45 ∷ digits bytes) ascii (one_more 45 (digits bytes) (lit< tt) (digits_ascii bytes))
 
 guid_ascii : (guid : List ℕ) → IsAscii (guid_text guid)
 unfolding guid_text
@@ -34,9 +34,9 @@ guid_ascii guid =
     let group_3 = byte 7 ∷ byte 6 ∷ [] in
     let group_4 = byte 8 ∷ byte 9 ∷ [] in
     let group_5 = byte 10 ∷ byte 11 ∷ byte 12 ∷ byte 13 ∷ byte 14 ∷ byte 15 ∷ [] in
-    let text_2 = digits group_1 ++ hyphen ∷ digits group_2 in
-    let text_3 = text_2 ++ hyphen ∷ digits group_3 in
-    let text_4 = text_3 ++ hyphen ∷ digits group_4 in
+    let text_2 = digits group_1 ++ 45 ∷ digits group_2 in
+    let text_3 = text_2 ++ 45 ∷ digits group_3 in
+    let text_4 = text_3 ++ 45 ∷ digits group_4 in
     and_group text_4 group_5 (and_group text_3 group_4 (and_group text_2 group_3 (and_group (digits group_1) group_2 (digits_ascii group_1))))
 
 pub guid_is_text : (guid : List ℕ) → IsUtf8 (guid_text guid)

@@ -12,8 +12,9 @@ use Rattle.apei_bytes.proofs.Parts.{part-take}
 use Rattle.apei_tables.specs.declared.headers.Header.{Header}
 use Rattle.apei_tables.specs.declared.headers.TableError.{TableError}
 use Rattle.apei_tables.specs.Layout.{spelling, IsHeader}
-use Rattle.apei_tables.specs.Tables.{IsSealed, IsTable, FindsTable, Finds, Refuses, refusal}
+use Rattle.apei_tables.specs.Tables.{IsSealed, IsTable, FindsTable, Refuses, refusal}
 use Rattle.apei_tables.proofs.Spelling.{same_header}
+use Rattle.apei_tables.proofs.Terms.{Finds}
 
 pub finds : (signature : List ℕ) (fixed : ℕ) (bytes : List ℕ) (header : Header) →
     36 ≤ fixed → 36 ≤ length bytes → part bytes 0 36 ≡ spelling header → IsHeader header → header.signature ≡ signature → header.length ≡ number_at bytes 4 4 →

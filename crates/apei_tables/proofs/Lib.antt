@@ -1,3 +1,4 @@
+pub mod Terms
 pub mod GasSpelling
 pub mod Spelling
 pub mod Finding

@@ -1,5 +1,5 @@
 -- Sealed tables, and what is said of bytes that should begin with one.
-use Rattle.std.specs.Prelude.{◌≡◌, ℕ, ◌≤◌, ◌%◌, List, length, take, sum, nat_lt, nat_eq, ◌==◌, ◌||◌, not, if◌then◌else◌, Option, Some, None, Result, IsOkAnd, MatchResult}
+use Rattle.std.specs.Prelude.{◌≡◌, ℕ, ◌≤◌, ◌%◌, List, length, take, sum, nat_lt, nat_eq, ◌==◌, ◌||◌, not, if◌then◌else◌, Option, Some, None, Result, MatchResult}
 use Rattle.std.specs.List.{starts_with}
 use denote.Bor.{Bor}
 use Rattle.base_model.specs.Bytes.{part, number_at}
@@ -26,10 +26,6 @@ pub record FindsTable (signature : List ℕ) (fixed : ℕ) (bytes : List ℕ) (h
   pub prefix : table ≡ take (length table) bytes
   pub wanted : header.signature ≡ signature
   pub long : fixed ≤ length table
-
--- the answer is this header and this table
-abbrev pub Finds : Header → List ℕ → Result (Header × Bor (List ℕ)) TableError → Type 0
-Finds header table result = IsOkAnd result (λ found. (found.0 ≡ header) × (found.1.now ≡ table))
 
 -- the first reason why bytes don't begin with such a table
 abbrev pub refusal : List ℕ → ℕ → List ℕ → Option TableError

@@ -1,8 +1,8 @@
 // The 36 bytes that an ACPI table begins with.
-ghost use Rattle.std.specs.Prelude.{◌≡◌, ◌≤◌, ℕ, List, ◌++◌, length, IfOk};
+ghost use Rattle.std.specs.Prelude.{◌≡◌, ◌≤◌, ℕ, List, ◌++◌, length, IfOk, IsOkAnd};
 ghost use Rattle.base_model.specs.Bytes.{part, number_at, put_at};
 ghost use Rattle.apei_tables.specs.Layout.{spelling, HasSizes, IsHeader};
-ghost use Rattle.apei_tables.specs.Tables.{IsTable, FindsTable, Finds, Refuses};
+ghost use Rattle.apei_tables.specs.Tables.{IsTable, FindsTable, Refuses};
 
 use crate::bytes::{begins_with, sum_of};
 use apei_bytes::{array_at, get_u32, write_array, write_u32};
@@ -50,7 +50,8 @@ impl Header {
         requires { 36 ≤ fixed }
         ensures found { IfOk result (λ found. FindsTable signature fixed bytes.now found.0 found.1.now) }
         ensures only { (header : _) (table rest : List ℕ) → bytes.now ≡ table ++ rest → IsHeader header
-            → IsTable header table → header.signature ≡ signature → fixed ≤ length table → Finds header table result }
+            → IsTable header table → header.signature ≡ signature → fixed ≤ length table
+            → IsOkAnd result (λ found. (found.0 ≡ header) × (found.1.now ≡ table)) }
         ensures refused { Refuses signature fixed bytes.now result }
     {
         Header::find(bytes, signature, fixed)

@@ -9,9 +9,10 @@ use Rattle.cper_frame.specs.declared.error.FrameError.{FrameError}
 use Rattle.cper_frame.specs.declared.error.FrameError.TheVariants.{Need, Start, End, Length, Section, Limit}
 use Rattle.cper_frame.specs.declared.fed.Fed.{Fed}
 use Rattle.cper_frame.specs.Reading.{checked}
-use Rattle.cper_frame.specs.Stream.{Reader, IsReader, is_need, missing_by, reader_holding, reader_failing, feed_result_by, feed_result, fill_result_by, fill_result}
+use Rattle.cper_frame.specs.Stream.{Reader, IsReader, is_need, missing_by, reader_holding, reader_failing, feed_result_by, feed_result, fill_result}
 use Rattle.cper_frame.proofs.Checks.{Passed, passed, passes}
 use Rattle.cper_frame.proofs.Streams.{waits, stays, bounds, needs_less, Reached, reached, decided, nothing}
+use Rattle.cper_frame.proofs.Terms.{fill_result_by}
 
 pub ord_min-min : (a b : ℕ) → ord_min nat_cmp a b ≡ min a b
 ord_min-min a b = grind (arith, nat_tests)

@@ -1,11 +1,11 @@
 -- The fields of a header, and cases of a verdict, as proofs name them.
-use Rattle.std.specs.Prelude.{ℕ, codes, List, ◌++◌, Option, Some, None, Result, Err, Ok, []}
+use Rattle.std.specs.Prelude.{ℕ, codes, List, ◌++◌, Option, Some, None, Result, Err, Ok, [], if◌then◌else◌}
 use Rattle.base_model.specs.Bytes.{little, number_at, part}
 use Rattle.cper_frame.specs.Grammar.{SectionValue, RecordValue}
 use Rattle.cper_frame.specs.Reading.{section_head_at, checked, record_of}
 use Rattle.cper_frame.specs.declared.error.FrameError.{FrameError}
 use Rattle.cper_frame.specs.declared.fed.Fed.{Fed}
-use Rattle.cper_frame.specs.Stream.{Reader, feed_result_by}
+use Rattle.cper_frame.specs.Stream.{Reader, feed_result_by, is_need, reader_failing, reader_holding}
 
 -- "CPER" as a number
 abbrev pub signature : ℕ
@@ -42,4 +42,12 @@ without_frame_by reader verdict =
     elim verdict [
       | Ok len ↦ record { limit = reader.limit; held = []; failed = reader.failed }
       | Err error ↦ reader
+    ]
+
+-- what a reader makes of bytes that are so judged
+abbrev pub fill_result_by : Reader → List ℕ → ℕ → Result ℕ FrameError → Reader × Result ℕ FrameError
+fill_result_by reader held count verdict =
+    elim verdict [
+      | Ok len ↦ (reader_holding reader held, Ok count)
+      | Err error ↦ if is_need error then (reader_holding reader held, Ok count) else (reader_failing reader error, Err error)
     ]

@@ -51,15 +51,14 @@ feed_result reader piece =
     ]
 
 -- what a reader makes of the first bytes of a piece, as many as are wanted or there
-abbrev pub fill_result_by : Reader → List ℕ → ℕ → Result ℕ FrameError → Reader × Result ℕ FrameError
-fill_result_by reader held count (Ok len) = (reader_holding reader held, Ok count)
-fill_result_by reader held count (Err error) = if is_need error then (reader_holding reader held, Ok count) else (reader_failing reader error, Err error)
-
 abbrev pub fill_result : Reader → List ℕ → Reader × Result ℕ FrameError
 fill_result reader piece =
     let count = min (missing_by (checked reader.limit reader.held)) (length piece) in
     let held = reader.held ++ take count piece in
-    fill_result_by reader held count (checked reader.limit held)
+    elim (checked reader.limit held) [
+      | Ok len ↦ (reader_holding reader held, Ok count)
+      | Err error ↦ if is_need error then (reader_holding reader held, Ok count) else (reader_failing reader error, Err error)
+    ]
 
 -- what is held is the beginning of a record that has its place, or one that is whole
 pub record IsReader (limit : ℕ) (held : List ℕ) (capacity missing : ℕ) : Type 0 where

@@ -1,6 +1,5 @@
 -- A record while it is written.
 use Rattle.std.specs.Prelude.{◌≡◌, ℕ, ◌+◌, ◌*◌, ◌^◌, ◌<◌, ◌≤◌, List, [], ◌∷◌, length, take, drop, All}
-use Rattle.std.specs.Borrow.{GName}
 use Rattle.base_model.specs.Bytes.{part, joined}
 use Rattle.cper_frame.specs.declared.heads.RecordHead.{RecordHead}
 use Rattle.cper_frame.specs.declared.heads.SectionHead.{SectionHead}
@@ -26,10 +25,7 @@ bodies_end at (section ∷ sections) = bodies_end (at + length section.body) sec
 abbrev pub written_record : RecordHead → List Given → RecordValue
 written_record head given = record { head = head; sections = sections_given (bodies_from (length given)) given }
 
--- how many bytes a writer has for the record, and how many of them are in use
-abbrev pub room_of : RecordWriter → ℕ
-room_of writer = length writer.out.now
-
+-- how many bytes of a writer's are in use
 abbrev pub used_by : RecordWriter → ℕ
 used_by writer = writer.end
 
@@ -39,10 +35,6 @@ announced_to writer = writer.sections
 
 abbrev pub given_to : RecordWriter → ℕ
 given_to writer = writer.done
-
--- which slice it writes into
-abbrev pub name_of : RecordWriter → GName
-name_of writer = writer.out.ghost_name
 
 -- a writer that stands behind the descriptors, within its room
 pub record IsRecordWriter (writer : RecordWriter) : Type 0 where

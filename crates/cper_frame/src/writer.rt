@@ -5,7 +5,7 @@ ghost use Rattle.apei_bytes.specs.Room.{NeedsRoom};
 ghost use Rattle.apei_bytes.specs.Writing.{Wrote};
 ghost use Rattle.cper_frame.specs.declared.heads.RecordHead.{RecordHead as Head};
 ghost use Rattle.cper_frame.specs.Grammar.{header_front, header_back, header, descriptor_fields, IsRecordHead, IsSectionHead};
-ghost use Rattle.cper_frame.specs.Writer.{Given, written_record, room_of, used_by, announced_to, given_to, name_of, IsRecordWriter, IsUnchanged, IsWriting, IsWritten};
+ghost use Rattle.cper_frame.specs.Writer.{Given, written_record, used_by, announced_to, given_to, IsRecordWriter, IsUnchanged, IsWriting, IsWritten};
 
 use crate::heads::{RecordHead, SectionHead};
 use crate::record::{DESCRIPTOR, HEADER, LENGTH_AT, SIGNATURE_END};
@@ -100,7 +100,7 @@ impl<'a> RecordWriter<'a> {
         ensures begun { IfOk result (IsWriting out.old head.now []) }
         ensures ready { IfOk result IsRecordWriter }
         ensures used { IfOk result (λ w. used_by w ≡ 128 + 72 * sections) }
-        ensures room { IfOk result (λ w. room_of w ≡ length out.old) }
+        ensures room { IfOk result (λ w. length w.out.now ≡ length out.old) }
         ensures announced { IfOk result (λ w. announced_to w ≡ sections) }
         ensures given { IfOk result (λ w. given_to w ≡ 0) }
         // It is refused exactly where there is no room for the header and the descriptors.
@@ -116,10 +116,10 @@ impl<'a> RecordWriter<'a> {
         ensures begun { IsWriting out.old head.now [] result }
         ensures ready { IsRecordWriter result }
         ensures used { used_by result ≡ 128 + 72 * sections }
-        ensures room { room_of result ≡ length out.old }
+        ensures room { length result.out.now ≡ length out.old }
         ensures announced { announced_to result ≡ sections }
         ensures given { given_to result ≡ 0 }
-        ensures same_slice { name_of result ≡ out.entry.ghost_name }
+        ensures same_slice { result.out.ghost_name ≡ out.entry.ghost_name }
     {
         put_header(out, head, sections);
         RecordWriter {
@@ -142,11 +142,11 @@ impl<'a> RecordWriter<'a> {
         ensures used { OnOk result (used_by self.new ≡ used_by self.old + length body.now) }
         ensures given { OnOk result (given_to self.new ≡ given_to self.old + 1) }
         // It is refused exactly where there is no room for its body.
-        ensures refused { NeedsRoom (used_by self.old + length body.now) (room_of self.old) result }
+        ensures refused { NeedsRoom (used_by self.old + length body.now) (length self.old.out.now) result }
         ensures unchanged { OnErr result (IsUnchanged self.old self.new) }
         ensures ready { IsRecordWriter self.new }
-        ensures same { (announced_to self.new ≡ announced_to self.old) × (room_of self.new ≡ room_of self.old) }
-        ensures same_slice { name_of self.new ≡ name_of self.old }
+        ensures same { (announced_to self.new ≡ announced_to self.old) × (length self.new.out.now ≡ length self.old.out.now) }
+        ensures same_slice { self.new.out.ghost_name ≡ self.old.out.ghost_name }
     {
         let need = self.end + body.len();
         room_for(self.out.len(), need)?;

@@ -12,10 +12,11 @@ use Rattle.apei_tables.proofs.Spelling.{same_header, length-spelling, has_sizes}
 use Rattle.erst_entries.specs.declared.entries.Entry.{Entry}
 use Rattle.erst_entries.specs.declared.tables.ErstError.{ErstError}
 use Rattle.erst_entries.specs.declared.tables.ErstError.TheVariants.{Table, HeaderSize, Count}
-use Rattle.erst_entries.specs.Layout.{Erst, FitsErst, AreEntries, entry_spelling, entries_spelling, front_spelling, spelling}
-use Rattle.erst_entries.specs.Tables.{IsErst, AreRead, FindsErst, signature, refusal}
+use Rattle.erst_entries.specs.Layout.{Erst, FitsErst, AreEntries, entry_spelling, front_spelling, spelling}
+use Rattle.erst_entries.specs.Tables.{IsErst, AreRead, FindsErst, refusal}
 use Rattle.erst_entries.proofs.EntryBytes.{length-entry, same_entry}
 use Rattle.erst_entries.proofs.TableBytes.{size-is}
+use Rattle.erst_entries.proofs.Terms.{signature, entries_spelling}
 
 -- a table that stands first, and the bytes behind it
 pub split : (signature : List ℕ) (fixed : ℕ) (bytes : List ℕ) (header : Header) (table : List ℕ) → FindsTable signature fixed bytes header table → bytes ≡ table ++ drop (length table) bytes

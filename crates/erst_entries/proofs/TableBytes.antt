@@ -8,10 +8,11 @@ use Rattle.apei_tables.specs.Tables.{IsSealed}
 use Rattle.apei_bytes.proofs.Puts.{put_fields-joined}
 use Rattle.apei_tables.proofs.Spelling.{length-spelling, number_at-length, sum-checksum}
 use Rattle.erst_entries.specs.declared.entries.Entry.{Entry}
-use Rattle.erst_entries.specs.Layout.{Erst, AreEntries, IsEntry, entry_spelling, entries_spelling, front_spelling, spelling}
+use Rattle.erst_entries.specs.Layout.{Erst, AreEntries, IsEntry, entry_spelling, front_spelling, spelling}
 use Rattle.erst_entries.specs.Tables.{AreRead}
 use Rattle.erst_entries.proofs.EntryBytes.{length-entry, put_at-all}
 use Rattle.base_model.proofs.Terms.{total}
+use Rattle.erst_entries.proofs.Terms.{entries_spelling}
 
 -- the front's fields, put one after another
 pub put-front : (out : List ℕ) (erst : Erst) → length out ≡ 48 → HasSizes erst.header →

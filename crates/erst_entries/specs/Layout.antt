@@ -25,10 +25,6 @@ abbrev pub AreEntries : List Entry → Type 0
 AreEntries [] = Unit {0}
 AreEntries (entry ∷ entries) = IsEntry entry × AreEntries entries
 
--- entries one after another
-abbrev pub entries_spelling : List Entry → List ℕ
-entries_spelling entries = joined (map entry_spelling entries)
-
 -- a table as its fields: the common header, the serialization header size, the reserved number, the entry count, the entries
 pub record Erst : Type 0 where
   pub header : Header
@@ -43,7 +39,7 @@ front_spelling erst = header_spelling erst.header ++ spelled 4 erst.header_size 
 
 -- the fields one after another
 unfoldable pub spelling : Erst → List ℕ
-spelling erst = front_spelling erst ++ entries_spelling erst.entries
+spelling erst = front_spelling erst ++ joined (map entry_spelling erst.entries)
 
 -- each field fits its place
 pub record FitsErst (erst : Erst) : Type 0 where

@@ -1,9 +1,9 @@
 // The table: read, written, and built entry by entry.
-ghost use Rattle.std.specs.Prelude.{◌≡◌, ◌+◌, ◌*◌, ◌≤◌, ◌<◌, ◌^◌, ◌⊎◌, ℕ, List, [], ◌∷◌, ◌++◌, Some, None, length, take, sum, slice_get, ◌%◌, ◌↔◌, IsTrue, true, OnOk, OnErr, IfOk, MatchResult};
-ghost use Rattle.base_model.specs.Bytes.{part, number_at, AreBytes};
+ghost use Rattle.std.specs.Prelude.{◌≡◌, ◌+◌, ◌*◌, ◌≤◌, ◌<◌, ◌^◌, ◌⊎◌, ℕ, List, [], ◌∷◌, ◌++◌, Some, None, length, map, take, sum, slice_get, ◌%◌, ◌↔◌, IsTrue, true, OnOk, OnErr, IfOk, MatchResult};
+ghost use Rattle.base_model.specs.Bytes.{part, number_at, joined, AreBytes};
 ghost use Rattle.apei_tables.specs.Layout.{HasSizes};
 ghost use Rattle.apei_tables.specs.Tables.{IsSealed};
-ghost use Rattle.erst_entries.specs.Layout.{Erst, FitsErst, AreEntries, entries_spelling, front_spelling, spelling};
+ghost use Rattle.erst_entries.specs.Layout.{Erst, FitsErst, AreEntries, entry_spelling, front_spelling, spelling};
 ghost use Rattle.erst_entries.specs.Programs.{program_of};
 ghost use Rattle.erst_entries.specs.Groups.{Kept};
 ghost use Rattle.erst_entries.specs.Tables.{IsErst, FindsErst, AreRead, refusal, IsRefusal, Finished};
@@ -255,7 +255,7 @@ fn by_action(alloc: Global, entries: &[Entry]) -> Result<(Vec<Entry>, [u32; ACTI
 
 /// Puts the bytes of entries behind others.
 fn spell_entries(bytes: &mut Vec<u8>, entries: &[Entry]) -> Result<(), AllocError>
-    ensures { OnOk result (bytes.new.items ≡ bytes.old.items ++ entries_spelling entries.now) }
+    ensures { OnOk result (bytes.new.items ≡ bytes.old.items ++ joined (map entry_spelling entries.now)) }
 {
     for entry in entries {
         bytes.extend_from_slice(&entry.spell())?;
@@ -265,7 +265,7 @@ fn spell_entries(bytes: &mut Vec<u8>, entries: &[Entry]) -> Result<(), AllocErro
 
 /// What the bytes of entries add to, modulo 256.
 fn sum_of_entries(entries: &[Entry]) -> u8
-    ensures { result ≡ sum (entries_spelling entries.now) % 256 }
+    ensures { result ≡ sum (joined (map entry_spelling entries.now)) % 256 }
 {
     let mut total: u8 = 0;
     for entry in entries {

@@ -15,7 +15,7 @@ use Rattle.erst_entries.specs.declared.actions.Action.{Action}
 use Rattle.erst_entries.specs.declared.actions.Action.TheVariants.{BeginWriteOperation, BeginReadOperation, BeginClearOperation, EndOperation, SetRecordOffset, ExecuteOperation, CheckBusyStatus, GetCommandStatus, GetRecordIdentifier, SetRecordIdentifier, GetRecordCount, BeginDummyWriteOperation, GetErrorLogAddressRange, GetErrorLogAddressRangeLength, GetErrorLogAddressRangeAttributes, GetExecuteOperationTimings}
 use Rattle.erst_entries.specs.declared.entries.Entry.{Entry}
 use Rattle.erst_entries.specs.Actions.{code_of}
-use Rattle.erst_entries.specs.Layout.{IsEntry, AreEntries, entry_spelling, entries_spelling, front_spelling, spelling, FitsErst}
+use Rattle.erst_entries.specs.Layout.{IsEntry, AreEntries, entry_spelling, front_spelling, spelling, FitsErst}
 use Rattle.erst_entries.specs.Tables.{IsErst}
 use Rattle.erst_entries.proofs.TableBytes.{upto-next, length-entries_spelling}
 use Rattle.erst_machine.specs.OwnTables.{own_header}
@@ -23,6 +23,7 @@ use Rattle.erst_machine.proofs.TableLemmas.{entry_fits, code_fits}
 use Rattle.erst_machine.proofs.SealLemmas.{sealed_is}
 use Rattle.erst_entries.proofs.EntryBytes.{put_at-all}
 use Rattle.erst_port.specs.PortTables.{action_at, value_at, carries_out, gives, asks_for_one, takes, port_entries, port_count, port_size, table_with, port_checksum, port_erst}
+use Rattle.erst_entries.proofs.Terms.{entries_spelling}
 
 -- Each entry fits its fields
 

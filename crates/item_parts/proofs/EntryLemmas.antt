@@ -8,7 +8,8 @@ use Rattle.apei_tables.specs.declared.headers.Header.{Header}
 use Rattle.hest_sources.specs.Layout.{gas_at}
 use Rattle.hest_sources.proofs.Structures.{is_gas, gas_again}
 use Rattle.erst_entries.specs.declared.entries.Entry.{Entry}
-use Rattle.erst_entries.specs.Layout.{Erst, AreEntries, IsEntry, entry_spelling, entries_spelling}
+use Rattle.erst_entries.specs.Layout.{Erst, AreEntries, IsEntry, entry_spelling}
+use Rattle.erst_entries.proofs.Terms.{entries_spelling}
 use Rattle.erst_entries.specs.Tables.{IsErst, AreRead, FindsErst, refusal}
 use Rattle.erst_entries.proofs.EntryBytes.{length-entry, read-spelling}
 use Rattle.erst_entries.proofs.Finding.{is_erst, fits_erst, only, not_refused, size_within, read}

@@ -1,6 +1,6 @@
 use Rattle.std.proofs.Common.{◌∙◌, ◌++◌, List, ℕ, sym, ap, append_assoc, take}
-use Rattle.erst_entries.specs.Layout.{entries_spelling}
 use Rattle.erst_entries.proofs.TableBytes.{upto-next}
+use Rattle.erst_entries.proofs.Terms.{entries_spelling}
 use Rattle.erst_entries.proofs.tables.spell_entries.Goals as goal
 
 pub loop-entry-preserved : goal.loop-entry-preserved

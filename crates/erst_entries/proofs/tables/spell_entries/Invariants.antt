@@ -1,5 +1,5 @@
 use Rattle.std.proofs.Common.{◌≡◌, ◌++◌, take}
-use Rattle.erst_entries.specs.Layout.{entries_spelling}
+use Rattle.erst_entries.proofs.Terms.{entries_spelling}
 use Rattle.erst_entries.proofs.tables.spell_entries.Given as goal
 
 abbrev pub invariant-loop-entry : goal.invariant-loop-entry

@@ -1,7 +1,8 @@
 use Rattle.std.proofs.Common.{◌≡◌, ◌++◌, take}
 use Rattle.apei_bytes.specs.Writing.{Wrote}
-use Rattle.erst_entries.specs.Layout.{front_spelling, entries_spelling}
+use Rattle.erst_entries.specs.Layout.{front_spelling}
 use Rattle.erst_port.specs.PortTables.{port_entries, table_with}
+use Rattle.erst_entries.proofs.Terms.{entries_spelling}
 use Rattle.erst_port.proofs.table.put_table.Given as goal
 
 abbrev pub invariant-loop-entry : goal.invariant-loop-entry

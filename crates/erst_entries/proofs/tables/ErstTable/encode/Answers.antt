@@ -1,6 +1,7 @@
 use Rattle.std.proofs.Common.{◌≡◌, ◌∙◌, ◌++◌, ℕ, List, ap}
 use Rattle.erst_entries.specs.declared.entries.Entry.{Entry}
-use Rattle.erst_entries.specs.Layout.{Erst, spelling, front_spelling, entries_spelling}
+use Rattle.erst_entries.specs.Layout.{Erst, spelling, front_spelling}
+use Rattle.erst_entries.proofs.Terms.{entries_spelling}
 use Rattle.erst_entries.proofs.tables.ErstTable.encode.Goals as goal
 
 pub returns : goal.returns

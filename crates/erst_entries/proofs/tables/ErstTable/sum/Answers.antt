@@ -1,7 +1,8 @@
 use Rattle.std.proofs.Common.{◌≡◌, ◌∙◌, List, sum, ap, arith}
 use Rattle.erst_entries.specs.declared.entries.Entry.{Entry}
-use Rattle.erst_entries.specs.Layout.{Erst, front_spelling, entries_spelling}
+use Rattle.erst_entries.specs.Layout.{Erst, front_spelling}
 use Rattle.erst_entries.proofs.TableBytes.{sum-spelling}
+use Rattle.erst_entries.proofs.Terms.{entries_spelling}
 use Rattle.erst_entries.proofs.tables.ErstTable.sum.Goals as goal
 
 pub returns-clause-value : goal.returns-clause-value
