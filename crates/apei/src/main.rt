@@ -3,15 +3,11 @@
 //! replies are written to standard output.
 #![tactic(auto)]
 
-mod file_flash;
-mod image_file;
-mod medium;
-
-use crate::file_flash::FileFlash;
 use apei_bytes::{StdSink, StdSource};
 use apei_cli::{Plan, Status, WordsError, plan, run, sim_flash};
 use apei_notify::{Listener, Tally};
 use clap_words::{end, words};
+use file_flash::FileFlash;
 use flash_model::{Flash, Geometry};
 use std::process::ExitCode;
 

@@ -1,4 +1,5 @@
-//! Work for the scripts in `bench/`: `apei_bench JOB TIMES` does one job many times, and prints what it counted.
+//! Work for the scripts in `bench/`: `apei_bench JOB TIMES` does one job many times, and prints what it counted. Beside it stand tests by
+//! bytes from outside.
 #![tactic(auto)]
 
 mod clients;
@@ -8,6 +9,8 @@ mod lines;
 mod machines;
 mod programs;
 mod tables;
+#[cfg(test)]
+mod tests;
 
 use std::alloc::Global;
 use std::env;

@@ -2,11 +2,11 @@
 use Rattle.script_lines.specs.Reads.{AreReadInOrder}
 use Rattle.script_lines.proofs.OrderLemmas.{reads_none, reads_next, stands, reads_all, stands_long, reads_taken, goes_on}
 use Rattle.apei_script.proofs.LawLemmas.{own_programs}
-use Rattle.apei_script.proofs.HistoryLemmas.{history_happens, history_ends_later, history_shows}
-use Rattle.apei_script.proofs.KeptCauses.{all_causes}
-use Rattle.apei_script.proofs.OrderLemmas.{history_order}
-use Rattle.apei_script.proofs.GivenBack.{history_gives_back}
-use Rattle.apei_script.proofs.KeptLines.{all_kept}
+use Rattle.script_laws.proofs.HistoryLemmas.{history_happens, history_ends_later, history_shows}
+use Rattle.script_laws.proofs.KeptCauses.{all_causes}
+use Rattle.script_laws.proofs.OrderLemmas.{history_order}
+use Rattle.script_laws.proofs.GivenBack.{history_gives_back}
+use Rattle.script_laws.proofs.KeptLines.{all_kept}
 use Rattle.apei_cli.specs.LineLaws.{HaveLaws}
 
 pub have_laws : (tells : Type 0) → HaveLaws tells

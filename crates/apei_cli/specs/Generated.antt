@@ -6,7 +6,7 @@ use Rattle.apei_script.specs.Players.{PlayerState}
 use Rattle.apei_script.specs.Words.{reply_at}
 use Rattle.apei_script.specs.Plays.{step_of}
 use Rattle.apei_script.specs.Sessions.{CommandPlayed}
-use Rattle.apei_script.specs.History.{Played, Follows, AreCounted, AreOwnLines, blocks_of, reply_of}
+use Rattle.script_laws.specs.History.{Played, Follows, AreCounted, AreOwnLines, blocks_of, reply_of}
 use Rattle.apei_cli.specs.declared.generate.tally.Tally.{Tally}
 use Rattle.apei_cli.specs.Commands.{generated_lines}
 

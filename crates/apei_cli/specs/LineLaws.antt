@@ -5,12 +5,12 @@ use Rattle.record_model.specs.Records.{Stored}
 use Rattle.erst_machine.specs.MachineState.{IsMachine, told_of}
 use Rattle.erst_machine.specs.Shown.{changes_of, shown_by}
 use Rattle.erst_commands.specs.Attached.{own_client}
-use Rattle.apei_script.specs.Spares.{KeepsAll}
-use Rattle.apei_script.specs.Orders.{HasNoBridge, IsInStep, AlwaysInStep, AllGiveStoredBack}
-use Rattle.apei_script.specs.KeptCauses.{AllHaveCauses}
+use Rattle.script_laws.specs.Spares.{KeepsAll}
+use Rattle.script_laws.specs.Orders.{HasNoBridge, IsInStep, AlwaysInStep, AllGiveStoredBack}
+use Rattle.script_laws.specs.KeptCauses.{AllHaveCauses}
 use Rattle.apei_script.specs.Players.{PlayerState, GivenNoOther}
 use Rattle.apei_script.specs.Plays.{HasHappened}
-use Rattle.apei_script.specs.History.{Played, Follows, ShowsLines, ShowsEachLine, AreOwnLines}
+use Rattle.script_laws.specs.History.{Played, Follows, ShowsLines, ShowsEachLine, AreOwnLines}
 
 -- what happens in lines, one after another, is one list
 abbrev pub AreOneList : Type 0 → Type 0

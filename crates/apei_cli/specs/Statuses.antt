@@ -8,7 +8,7 @@ use Rattle.script_text.specs.ScriptText.{Means}
 use Rattle.apei_script.specs.Players.{PlayerState}
 use Rattle.apei_script.specs.Words.{Reply}
 use Rattle.apei_script.specs.Plays.{LeftIn, FailsRestart, BringsTable, PartlyWritten}
-use Rattle.apei_script.specs.History.{Played, text_of}
+use Rattle.script_laws.specs.History.{Played, text_of}
 use Rattle.script_lines.specs.declared.ending.ScriptEnd.{ScriptEnd}
 use Rattle.script_lines.specs.declared.ending.ScriptEnd.TheVariants as ending
 use Rattle.script_lines.specs.Causes.{Fault, OfSource, OfSink, NoFault}

@@ -6,7 +6,7 @@ use Rattle.script_text.specs.ScriptGrammar.{count}
 use Rattle.apei_script.specs.Players.{PlayerState}
 use Rattle.apei_script.specs.Words.{said_at, words_of_count}
 use Rattle.apei_script.specs.Plays.{step_of}
-use Rattle.apei_script.specs.History.{Played, Follows, AreCounted, AreOwnLines, blocks_of}
+use Rattle.script_laws.specs.History.{Played, Follows, AreCounted, AreOwnLines, blocks_of}
 use Rattle.apei_cli.specs.declared.generate.tally.Tally.{Tally}
 use Rattle.apei_cli.specs.Commands.{generated_lines}
 use Rattle.apei_cli.specs.Generated.{tally_of}

@@ -1,8 +1,5 @@
-pub mod HistoryLemmas
 pub mod OneEvent
-pub mod LineKinds
 pub mod TurnsAlike
-pub mod EquivalenceLemmas
 pub mod EventChanges
 pub mod LineLemmas
 pub mod WordLemmas
@@ -28,8 +25,4 @@ pub mod CommandLemmas
 pub mod PlayLemmas
 pub mod KeptTurns
 mod MappedTurns
-pub mod GivenBack
 pub mod BridgeLemmas
-pub mod KeptLines
-pub mod KeptCauses
-pub mod OrderLemmas

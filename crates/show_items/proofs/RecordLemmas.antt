@@ -5,7 +5,7 @@ use Rattle.base_model.specs.Bytes.{part}
 use Rattle.show_findings.specs.Places.{IsSection}
 use Rattle.show_items.specs.Groups.{Group, fields_group, numbered}
 use Rattle.show_items.specs.Records.{body_group, descriptor_at, descriptor_group, descriptor_of, room_behind, section_body, section_group, section_groups, section_offset}
-use Rattle.standard_fields.specs.Records.{section_descriptor}
+use Rattle.field_lines.specs.Records.{section_descriptor}
 use Rattle.show_items.proofs.ItemLemmas.{first_part}
 
 -- as much of a body as there is room for

@@ -9,7 +9,7 @@ use Rattle.show_items.specs.Groups.{Group, Head, bytes_group, fields_group, sing
 use Rattle.show_items.specs.Items.{Shown}
 use Rattle.show_items.specs.Judged.{IsJudgedBy, IsShownAs}
 use Rattle.show_items.specs.Records.{section_group}
-use Rattle.standard_fields.specs.Blocks.{block_status, long_data_entry, short_data_entry}
+use Rattle.field_lines.specs.Blocks.{block_status, long_data_entry, short_data_entry}
 
 abbrev pub head_group : List ℕ → Group
 head_group bytes = fields_group (single (codes "header")) block_status (part bytes 0 20)

@@ -9,8 +9,8 @@ use Rattle.show_findings.specs.Subjects.{is_of_linux}
 use Rattle.show_items.specs.Groups.{Group, Head, fields_group, group_by, numbered, single, typed}
 use Rattle.show_items.specs.Items.{Shown}
 use Rattle.show_items.specs.Judged.{IsJudgedBy, IsShownAs}
-use Rattle.standard_fields.specs.Records.{linux_header, record_header, section_descriptor}
-use Rattle.standard_fields.specs.Sections.{section_structure}
+use Rattle.field_lines.specs.Records.{linux_header, record_header, section_descriptor}
+use Rattle.field_lines.specs.Sections.{section_structure}
 
 -- the header; that of a record of Linux's has its time in seconds
 abbrev pub header_structure : List ℕ → Structure

@@ -12,9 +12,9 @@ use Rattle.show_findings.specs.Signatures.{begins}
 use Rattle.show_items.specs.Groups.{Group, fields_group, group_by, numbered, single}
 use Rattle.show_items.specs.Items.{Shown}
 use Rattle.show_items.specs.Judged.{IsFinding, IsShownAs}
-use Rattle.standard_fields.specs.Erst.{erst_entry, erst_header}
-use Rattle.standard_fields.specs.Headers.{bert_fields, hest_header, table_header}
-use Rattle.standard_fields.specs.Sources.{source_tables, structure_in}
+use Rattle.field_lines.specs.Erst.{erst_entry, erst_header}
+use Rattle.field_lines.specs.Headers.{bert_fields, hest_header, table_header}
+use Rattle.field_lines.specs.Sources.{source_tables, structure_in}
 
 -- what a table is by its signature, where its fields are known
 abbrev pub table_of : List ℕ → Option Item

@@ -16,9 +16,9 @@ use crate::pages::{Pages, Stop};
 use crate::records::add_section;
 use crate::sheet::{Form, Item, Sheet};
 use apei_bytes::guid_at;
+use field_lines::{block_status, data_entry};
 use item_parts::Item as Decoded;
 use show_findings::{DataEntry, add_block, data_entry_at, seen_at, seen_u16, seen_u32};
-use standard_fields::{block_status, data_entry};
 use std::alloc::AllocError;
 
 // The bytes of a block's head.

@@ -8,16 +8,16 @@ ghost use Rattle.show_items.specs.Judged.{ShowsOne, StopsOne};
 ghost use Rattle.show_items.specs.Records.{IsRecord, header_group, record_groups, room_of, section_group, section_groups};
 ghost use Rattle.show_items.specs.Sheets.{AddsGroups, GroupsBegun};
 ghost use Rattle.show_items.specs.Stops.{HasStop};
-ghost use Rattle.standard_fields.specs.Records.{section_descriptor};
+ghost use Rattle.field_lines.specs.Records.{section_descriptor};
 
 use crate::faults::fault_in;
 use crate::groups::Group;
 use crate::pages::{Pages, Stop};
 use crate::sheet::{Form, Item, Sheet};
 use apei_bytes::{Guid, guid_at};
+use field_lines::{record_header, section_descriptor, section_layout};
 use item_parts::Item as Decoded;
 use show_findings::{Section, add_record, is_of_linux, section_at, seen_at, seen_u16};
-use standard_fields::{record_header, section_descriptor, section_layout};
 use std::alloc::AllocError;
 
 // The bytes of a header.

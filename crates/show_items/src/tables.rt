@@ -13,12 +13,11 @@ use crate::faults::fault_in;
 use crate::groups::Group;
 use crate::pages::{Pages, Stop};
 use crate::sheet::{Form, Item, Sheet};
-use field_lines::Layout;
+use field_lines::{
+    Layout, bert_fields, erst_entry, erst_header, hest_header, source_layout, table_header,
+};
 use item_parts::Item as Decoded;
 use show_findings::{Fault, Source, add_table, instruction_at, seen_at, seen_u32, source_at};
-use standard_fields::{
-    bert_fields, erst_entry, erst_header, hest_header, source_layout, table_header,
-};
 use std::alloc::AllocError;
 
 // The bytes of a header, and of the fixed parts of an ERST, a HEST and a BERT.

@@ -5,7 +5,7 @@ use Rattle.field_lines.specs.Code.{structure_of}
 use Rattle.field_lines.specs.Layouts.{Structure}
 use Rattle.show_items.specs.Groups.{Group, fields_group, numbered}
 use Rattle.show_items.specs.Records.{section_group}
-use Rattle.standard_fields.specs.Records.{section_descriptor}
+use Rattle.field_lines.specs.Records.{section_descriptor}
 use Rattle.show_items.proofs.ItemLemmas.{same_groups}
 use Rattle.show_items.proofs.SheetLemmas.{groups_then}
 use Rattle.show_items.proofs.records.add_described.Goals as goal

@@ -7,8 +7,8 @@ use Rattle.show_findings.specs.Places.{seen_number}
 use Rattle.show_items.specs.Groups.{Group}
 use Rattle.show_items.specs.Sheets.{AddsGroups, GroupsBegun}
 use Rattle.show_items.specs.Tables.{fixed_group, groups_behind, instruction_groups, source_groups, table_of}
-use Rattle.standard_fields.specs.Erst.{erst_header}
-use Rattle.standard_fields.specs.Headers.{hest_header}
+use Rattle.field_lines.specs.Erst.{erst_header}
+use Rattle.field_lines.specs.Headers.{hest_header}
 use Rattle.show_items.proofs.BeginningLemmas.{if_stopped}
 use Rattle.show_items.proofs.TableLemmas.{group_and_begun, group_and_more}
 use Rattle.show_items.proofs.tables.add_behind.Goals as goal

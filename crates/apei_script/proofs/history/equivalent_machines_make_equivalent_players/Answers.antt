@@ -1,5 +1,0 @@
-use Rattle.apei_script.proofs.EquivalenceLemmas.{own_players_alike}
-use Rattle.apei_script.proofs.history.equivalent_machines_make_equivalent_players.Goals as goal
-
-pub returns : goal.returns
-returns c = own_players_alike
