@@ -4,3 +4,4 @@ pub mod PortLemmas
 pub mod HandleLemmas
 pub mod FormatLemmas
 pub mod CheckLemmas
+pub mod DueLemmas

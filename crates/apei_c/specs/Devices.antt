@@ -1,5 +1,5 @@
 -- What C's calls do with a port.
-use Rattle.std.specs.Prelude.{◌≡◌, ◌⊎◌, ℕ, ◌+◌, ◌-◌, ◌^◌, ◌≤◌, Bool, true, false, List, length, Option, Some, None, Result, Ok, Err, MatchResult}
+use Rattle.std.specs.Prelude.{◌≡◌, ◌⊎◌, ℕ, ◌+◌, ◌-◌, ◌^◌, ◌<◌, ◌≤◌, Bool, true, false, List, length, Option, Some, None, Result, Ok, Err, MatchResult}
 use Rattle.base_model.specs.Bytes.{part}
 use Rattle.apei_tables.specs.declared.widths.Width.{Width}
 use Rattle.erst_port.specs.declared.due.Kind.{Kind}
@@ -65,13 +65,13 @@ abbrev pub HandsDue : Kind → (bytes before : List ℕ) → (has_room : Bool) �
 HandsDue Program bytes before has_room after = Fills bytes before has_room after
 HandsDue Erase bytes before has_room after = (has_room ≡ true) × (after ≡ before)
 
--- the change that is due is told, by its place in the medium; or none is due; or the buffer has no room for its bytes, or it has 2^32 of
--- them, which no geometry has
+-- the change that is due is told, by its place in the medium; or none is due; or the buffer has no room for its bytes, as no buffer of 256
+-- lacks it; or it has 2^32 of them, which no geometry has
 pub data TellsChange (port : PortState) (old : ToldChange) : Status → ToldChange → Type 0 where
   IsTold : (kind : Kind) (at : ℕ) (bytes after : List ℕ) → IsDueOn port kind at bytes → HandsDue kind bytes old.bytes true after
       → TellsChange port old Done (told_change (record { offset = at; length = length bytes; kind = number_of_kind kind }) after)
   NoChange : IsMade port → TellsChange port old Nothing old
-  NoRoom : (kind : Kind) (at : ℕ) (bytes after : List ℕ) → IsDueOn port kind at bytes → HandsDue kind bytes old.bytes false after
+  NoRoom : (kind : Kind) (at : ℕ) (bytes after : List ℕ) → IsDueOn port kind at bytes → HandsDue kind bytes old.bytes false after → length old.bytes < 256
       → TellsChange port old Short (told_change old.change after)
   TooLong : (kind : Kind) (at : ℕ) (bytes : List ℕ) → IsDueOn port kind at bytes → 2 ^ 32 ≤ length bytes → TellsChange port old Short old
 

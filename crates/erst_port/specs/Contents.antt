@@ -1,5 +1,5 @@
 -- What a change puts into its range.
-use Rattle.std.specs.Prelude.{◌≡◌, ℕ, ◌%◌, List, length, replicate}
+use Rattle.std.specs.Prelude.{◌≡◌, ℕ, ◌%◌, ◌<◌, ◌≤◌, List, length, replicate}
 use Rattle.base_model.specs.Flash.{IsErased}
 use Rattle.erst_port.specs.declared.due.Kind.{Kind}
 use Rattle.erst_port.specs.declared.content.Content.{Content}
@@ -16,5 +16,5 @@ kind_of (Erase len) = kinds.Erase
 
 -- what a flash of such sectors may be asked for
 abbrev pub IsAsked : (sector : ℕ) (image : List ℕ) (at : ℕ) → Content → Type 0
-IsAsked sector image at (Program bytes) = IsErased image at (length bytes.now)
+IsAsked sector image at (Program bytes) = IsErased image at (length bytes.now) × (0 < length bytes.now) × (length bytes.now ≤ 256)
 IsAsked sector image at (Erase len) = (at % sector ≡ 0) × (len ≡ sector)

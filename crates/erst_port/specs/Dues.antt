@@ -1,5 +1,5 @@
 -- The changes that a medium has to make, one after another, to hold what its flash holds.
-use Rattle.std.specs.Prelude.{◌≡◌, ℕ, ◌+◌, ◌/◌, ◌%◌, ◌≤◌, min, List, [], ◌∷◌, length, replicate, slice_get, Some}
+use Rattle.std.specs.Prelude.{◌≡◌, ℕ, ◌+◌, ◌/◌, ◌%◌, ◌<◌, ◌≤◌, min, List, [], ◌∷◌, length, replicate, slice_get, Some}
 use Rattle.std.specs.Option.{option_map}
 use Rattle.base_model.specs.Bytes.{put_at}
 use Rattle.base_model.specs.Flash.{Change, Told, FlashState, IsErased, image_at}
@@ -10,9 +10,10 @@ use Rattle.erst_port.specs.declared.due.Kind.TheVariants.{Program, Erase}
 abbrev pub range_of : Change → ℕ × ℕ
 range_of change = (change.at, change.len)
 
--- bytes are programmed where an image is erased. An erase puts erased ones into a whole sector
+-- 1 to 256 bytes are programmed where an image is erased. An erase puts erased ones into a whole sector
 pub record MayPut (sector : ℕ) (image : List ℕ) (kind : Kind) (at : ℕ) (bytes : List ℕ) : Type 0 where
   pub programs : kind ≡ Program → IsErased image at (length bytes)
+  pub few : kind ≡ Program → (0 < length bytes) × (length bytes ≤ 256)
   pub erases : kind ≡ Erase → (at % sector ≡ 0) × (bytes ≡ replicate sector 0xFF)
 
 -- change number s of a flash, from 0, puts these bytes at a place: with them there, the image before it is the image after it

@@ -43,9 +43,10 @@ pub trait Flash {
         ensures unpowered { (state self.new).unpowered ≡ unpowered_after (state self.old) }
         ensures fails { IsErr result ↔ read_fails self.old };
 
-    /// Programs erased bytes from `at` on.
+    /// Programs 1 to 256 erased bytes from `at` on.
     fn program(&mut self, at: u64, bytes: &[u8]) -> Result<(), FlashFailed>
         requires some { 0 < length bytes.now }
+        requires few { length bytes.now ≤ 256 }
         requires within { at + length bytes.now ≤ (state self.old).size }
         requires erased { tells → IsErased (state self.old).told.image at (length bytes.now) }
         ensures bytes { OnOk result (tells → (state self.new).told.image

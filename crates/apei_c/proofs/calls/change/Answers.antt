@@ -3,6 +3,7 @@ use Rattle.apei_c.specs.declared.status.Status.TheVariants.{Done}
 use Rattle.apei_c.specs.declared.structs.MediumChange.{MediumChange}
 use Rattle.apei_c.specs.Buffers.{told_change}
 use Rattle.apei_c.specs.Devices.{TellsChange, IsTold, NoChange, NoRoom, TooLong}
+use Rattle.apei_c.proofs.DueLemmas.{has_few}
 use Rattle.apei_c.proofs.calls.change.Goals as goal
 
 pub returns-in_default : goal.returns-in_default
@@ -12,7 +13,9 @@ pub returns-then-due : goal.returns-then-due
 returns-then-due c = TooLong c.in-Some.due.kind c.in-Some.due.at c.in-Some.due.bytes.now c.in-Some.ensures (omega arith)
 
 pub returns-then-not-hand_out : goal.returns-then-not-hand_out
-returns-then-not-hand_out c = NoRoom c.in-Some.due.kind c.in-Some.due.at c.in-Some.due.bytes.now c.hand_out.new.bytes c.in-Some.ensures c.if-not-hand_out.ensures
+returns-then-not-hand_out c =
+    NoRoom c.in-Some.due.kind c.in-Some.due.at c.in-Some.due.bytes.now c.hand_out.new.bytes c.in-Some.ensures c.if-not-hand_out.ensures
+    (has_few c.args.port.now c.in-Some.due.kind c.in-Some.due.at c.in-Some.due.bytes.now c.args.bytes.now c.hand_out.new.bytes c.in-Some.ensures c.if-not-hand_out.ensures)
 
 pub returns : goal.returns
 returns c =
