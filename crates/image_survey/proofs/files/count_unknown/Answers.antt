@@ -1,6 +1,6 @@
 use Rattle.std.proofs.Common.{◌≡◌, ◌<◌, ℕ, List, ap, ◌∙◌, arith}
 use Rattle.record_model.specs.Records.{count_below, one_if}
-use Rattle.image_survey.specs.Heads.{is_unknown, unknown_in}
+use Rattle.image_survey.specs.Heads.{is_unknown}
 use Rattle.image_survey.specs.Kinds.{kind_at}
 use Rattle.image_survey.proofs.CountLemmas.{unknown_more, count_none}
 use Rattle.image_survey.proofs.files.count_unknown.Goals as goal
