@@ -127,7 +127,7 @@ source_fits = record {
   status = record { space = lit< tt; width = lit< tt; offset = lit< tt; access = lit< tt; address = lit< tt };
   notify = refl;
   block_len = lit< tt;
-  ack = record { register = record { space = lit< tt; width = lit< tt; offset = lit< tt; access = lit< tt; address = lit< tt }; preserve = lit< tt; write = lit< tt };
+  ack = (record { space = lit< tt; width = lit< tt; offset = lit< tt; access = lit< tt; address = lit< tt }, lit< tt, lit< tt);
 }
 
 own_hest_is : IsHest (Generic own_source ∷ []) own_hest

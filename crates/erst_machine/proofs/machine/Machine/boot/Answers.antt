@@ -1,5 +1,7 @@
 use Rattle.std.proofs.Common.{◌≤◌, ℕ, subst, sym, refl}
 use Rattle.base_model.proofs.CrashLemmas.{Leaves-none}
+use Rattle.record_store.specs.Store.{IsSettled}
+use Rattle.erst_device.specs.DeviceState.{DeviceState}
 use Rattle.erst_machine.proofs.BootLemmas.{is_booted}
 use Rattle.erst_machine.proofs.KeptLemmas.{reach_small}
 use Rattle.erst_machine.proofs.machine.Machine.boot.Goals as goal
@@ -26,3 +28,6 @@ returns-in-Ok-attach-clause-booted g c =
 
 pub returns-in-Err-clause-once : goal.returns-in-Err-clause-once
 returns-in-Err-clause-once g c = c.refused_boot.ensures.once (g.F.Flash.state c.args.flash) c.in-Err.ensures.once
+
+pub returns-in-Ok-attach-clause-settled : goal.returns-in-Ok-attach-clause-settled
+returns-in-Ok-attach-clause-settled g c = λ told. subst (λ (device : DeviceState). IsSettled device.store) (sym c.new.ensures) (c.in-Ok-attach.ensures.settled told)
