@@ -4,14 +4,14 @@ use Rattle.std.specs.Prelude.{◌==◌, ◌||◌}
 use Rattle.std.specs.List.{list_any}
 use Rattle.std.proofs.lemmas.Bool.{eqb-true}
 use Rattle.flash_model.specs.Limits.{IsSectorSize, IsGeometry}
-use Rattle.image_survey.specs.Heads.{Suits, IsSuiting, heads_in, heads_by, turn_of, IsMost, IsOfTurn, IsTried, IsGuessBefore, heads_of}
+use Rattle.image_survey.specs.Heads.{Suits, IsSuiting, heads_in, heads_by, turn_of, NoneBefore, IsMost, IsOfTurn, IsTried, IsGuessBefore, heads_of}
 use Rattle.image_survey.specs.declared.heads.Guess.{Guess}
 
 -- before one more turn is before the turn, or in it
 before_or_in : (n turn : ℕ) → n < turn + 1 → (n < turn) ⊎ (n ≡ turn)
 before_or_in n turn low = grind arith
 
-pub none_at_first : (image : List ℕ) → IsGuessBefore image 0 None
+pub none_at_first : (image : List ℕ) → NoneBefore image 0
 none_at_first image sector per_slot suits low = let no : ⊥ = omega arith in absurd no
 
 -- what was best stays so, where the turn has no more heads

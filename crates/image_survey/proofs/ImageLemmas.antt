@@ -8,13 +8,13 @@ use Rattle.base_model.proofs.BytesLemmas.{length-put_at, part-put_at, SameOutsid
 use Rattle.flash_model.specs.declared.geometry.Geometry.{Geometry}
 use Rattle.image_survey.specs.declared.format.FormatChange.{FormatChange}
 use Rattle.image_survey.specs.Headers.{header_of, header_checksum, flash_size, medium_size, whole}
-use Rattle.image_survey.specs.Formats.{erases_from, flash_sectors, after, new_medium, content_bytes}
+use Rattle.image_survey.specs.Formats.{erases_from, flash_sectors, after, new_medium, bytes_of}
 use Rattle.image_survey.proofs.HeaderLemmas.{length-header_with}
 
 pub after-append : (first second : List FormatChange) (medium : List ℕ) → after (first ++ second) medium ≡ after second (after first medium)
 unfolding after
 after-append [] second medium = refl
-after-append (change ∷ first) second medium = after-append first second (put_at medium change.at (content_bytes change.len change.content))
+after-append (change ∷ first) second medium = after-append first second (put_at medium change.at (bytes_of change))
 
 -- the sectors of the flash are its bytes
 pub sectors_are : (geometry : Geometry) → flash_sectors geometry * geometry.sector ≡ flash_size geometry

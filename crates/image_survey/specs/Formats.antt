@@ -13,6 +13,9 @@ content_bytes len (Header bytes) = bytes
 content_bytes len (Mark byte) = byte
 content_bytes len Erased = replicate len 0xFF
 
+abbrev pub bytes_of : FormatChange → List ℕ
+bytes_of change = content_bytes change.len change.content
+
 abbrev pub marks : (at byte : ℕ) → FormatChange
 marks at byte = record { at = at; len = 1; content = Mark (byte ∷ []) }
 
@@ -40,7 +43,7 @@ format_changes geometry =
 -- bytes after changes
 unfoldable pub after : List FormatChange → List ℕ → List ℕ
 after [] medium = medium
-after (change ∷ changes) medium = after changes (put_at medium change.at (content_bytes change.len change.content))
+after (change ∷ changes) medium = after changes (put_at medium change.at (bytes_of change))
 
 -- a medium that was just formatted
 unfoldable pub new_medium : Geometry → List ℕ

@@ -32,10 +32,13 @@ medium_size geometry = geometry.sector + flash_size geometry
 
 -- signature, version 1, length of the header with its marks, bytes of a sector, sectors of a slot, slots, a reserved number, bytes of the
 -- medium, checksum, a reserved number: 48 bytes
-unfoldable pub header_with : Geometry → (checksum : ℕ) → List ℕ
-header_with geometry checksum = joined (
+abbrev pub header_fields : Geometry → (checksum : ℕ) → List (List ℕ)
+header_fields geometry checksum =
     spelled 8 signature ∷ spelled 4 1 ∷ spelled 4 64 ∷ spelled 4 geometry.sector ∷ spelled 4 geometry.per_slot ∷ spelled 4 geometry.slots ∷ spelled 4 0
-    ∷ spelled 8 (medium_size geometry) ∷ spelled 4 checksum ∷ spelled 4 0 ∷ [])
+    ∷ spelled 8 (medium_size geometry) ∷ spelled 4 checksum ∷ spelled 4 0 ∷ []
+
+unfoldable pub header_with : Geometry → (checksum : ℕ) → List ℕ
+header_with geometry checksum = joined (header_fields geometry checksum)
 
 -- the checksum with which the 12 words of the header add to 0
 unfoldable pub header_checksum : Geometry → ℕ

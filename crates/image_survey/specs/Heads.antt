@@ -2,7 +2,7 @@
 use Rattle.std.specs.Prelude.{◌≡◌, ℕ, ◌+◌, ◌-◌, ◌*◌, ◌/◌, ◌<◌, ◌≤◌, nat_lt, Bool, true, false, if◌then◌else◌, List, length, Option, Some, None}
 use Rattle.flash_model.specs.Limits.{IsGeometry}
 use Rattle.flash_model.specs.declared.geometry.Geometry.{Geometry}
-use Rattle.record_model.specs.Records.{Slot, slot_at, is_upright, not_killed, count_below}
+use Rattle.record_model.specs.Records.{Head, Slot, slot_at, is_upright, not_killed, count_below}
 use Rattle.image_survey.specs.Kinds.{kind_at}
 use Rattle.image_survey.specs.declared.kinds.SlotKind.{SlotKind}
 use Rattle.image_survey.specs.declared.kinds.SlotKind.TheVariants.{Unknown}
@@ -39,6 +39,10 @@ heads_by image sector per_slot = heads_in (sector * per_slot) (length image / (s
 abbrev pub turn_of : ℕ → ℕ → ℕ
 turn_of sector per_slot = per_slot * 256 + sector / 256
 
+-- no slots that are tried before a turn have a head
+abbrev pub NoneBefore : List ℕ → ℕ → Type 0
+NoneBefore image turn = (sector per_slot : ℕ) → Suits (length image) sector per_slot → turn_of sector per_slot < turn → heads_by image sector per_slot ≡ 0
+
 -- the geometry with most heads of those that are tried before a turn, and the first of them
 pub record IsMost (image : List ℕ) (turn : ℕ) (guess : Guess) : Type 0 where
   pub suits : Suits (length image) guess.geometry.sector guess.geometry.per_slot
@@ -55,10 +59,8 @@ abbrev pub heads_of : Option Guess → ℕ
 heads_of None = 0
 heads_of (Some guess) = guess.heads
 
--- the best guess before a turn: none where no slots that are tried before it have a head
 abbrev pub IsGuessBefore : List ℕ → ℕ → Option Guess → Type 0
-IsGuessBefore image turn None =
-    (sector per_slot : ℕ) → Suits (length image) sector per_slot → turn_of sector per_slot < turn → heads_by image sector per_slot ≡ 0
+IsGuessBefore image turn None = NoneBefore image turn
 IsGuessBefore image turn (Some guess) = IsMost image turn guess
 
 -- the geometry of a turn, and its heads: of the slots of a turn no others suit an image
@@ -74,14 +76,21 @@ abbrev pub IsTried : List ℕ → ℕ → Option Guess → Type 0
 IsTried image turn None = (sector per_slot : ℕ) → Suits (length image) sector per_slot → ¬ (turn_of sector per_slot ≡ turn)
 IsTried image turn (Some guess) = IsOfTurn image turn guess
 
--- the geometry that an image seems to have: none where no geometry of its length has a head. The last turns are those of 16 sectors
-abbrev pub IsGuess : List ℕ → Option Guess → Type 0
-IsGuess image guess = IsGuessBefore image (17 * 256) guess
+-- behind the last turn: 16 sectors
+abbrev pub last_turn : ℕ
+last_turn = 17 * 256
 
--- a slot of no known form
+-- the geometry that an image seems to have: none where no geometry of its length has a head
+abbrev pub IsGuess : List ℕ → Option Guess → Type 0
+IsGuess image guess = IsGuessBefore image last_turn guess
+
 abbrev pub is_unknown : SlotKind → Bool
 is_unknown Unknown = true
 is_unknown _ = false
+
+-- the slots of no known form
+abbrev pub unknown_in : ℕ → ℕ → List ℕ → ℕ
+unknown_in slot_size slots image = count_below (λ k. is_unknown (kind_at slot_size slots image k)) slots
 
 -- what a file is to a store whose geometry has so many heads in it: one of another geometry, where that has more; none of ours where
 -- there is no head and more than two slots are of no known form, which is more than lost power leaves; else the store's own
@@ -93,4 +102,4 @@ file_kind_by heads (Some guess) unknown = if nat_lt heads guess.heads then Other
 pub record IsFileView (slot_size slots : ℕ) (image : List ℕ) (view : FileView) : Type 0 where
   pub heads : view.heads ≡ heads_in slot_size slots image
   pub guess : IsGuess image view.guess
-  pub kind : view.kind ≡ file_kind_by view.heads view.guess (count_below (λ k. is_unknown (kind_at slot_size slots image k)) slots)
+  pub kind : view.kind ≡ file_kind_by view.heads view.guess (unknown_in slot_size slots image)

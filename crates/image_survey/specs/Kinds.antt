@@ -7,18 +7,22 @@ use Rattle.record_slots.specs.Listed.{first_records}
 use Rattle.image_survey.specs.declared.kinds.SlotKind.{SlotKind}
 use Rattle.image_survey.specs.declared.kinds.SlotKind.TheVariants.{First, Further, SecondCopy, Orphan, Filling, Killed, Erased, Unknown}
 
--- what a slot is. One that no record has and that is not erased is told by its marks: it is a first slot that was killed, a whole further
--- slot, or one that is being filled or erased
+-- a slot that no record has and that is not erased, by its marks: a first slot that was killed, a whole further slot, or one
+-- that is being filled or erased
+abbrev pub kind_by_marks : Head → ℕ → SlotKind
+kind_by_marks head tail =
+    if head.gate == gate_open then (if head.kill == not_killed then Unknown else Killed)
+    else if head.gate == gate_further && head.format == 3 then (if tail == tail_mark then Orphan else Filling)
+    else if head.gate == gate_closed then Filling
+    else Unknown
+
 abbrev pub kind_by : Bool → Bool → Bool → Bool → Head → ℕ → SlotKind
 kind_by first up taken erased head tail =
     if first then First
     else if up then SecondCopy
     else if taken then Further
     else if erased then Erased
-    else if head.gate == gate_open then (if head.kill == not_killed then Unknown else Killed)
-    else if head.gate == gate_further && head.format == 3 then (if tail == tail_mark then Orphan else Filling)
-    else if head.gate == gate_closed then Filling
-    else Unknown
+    else kind_by_marks head tail
 
 -- each byte of a slot is 0xFF
 unfoldable pub is_erased : ℕ → List ℕ → ℕ → Bool

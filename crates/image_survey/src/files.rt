@@ -1,9 +1,7 @@
 // What kind of file an image is.
 ghost use Rattle.std.specs.Prelude.{◌≡◌, ◌*◌, ℕ, List, length};
 ghost use Rattle.image_survey.specs.Shown.{AreShown};
-ghost use Rattle.image_survey.specs.Heads.{IsFileView, file_kind_by, is_unknown};
-ghost use Rattle.record_model.specs.Records.{count_below};
-ghost use Rattle.image_survey.specs.Kinds.{kind_at};
+ghost use Rattle.image_survey.specs.Heads.{IsFileView, file_kind_by, is_unknown, unknown_in};
 
 use crate::heads::{Guess, best_guess, count_heads};
 use crate::totals::one_if;
@@ -63,7 +61,7 @@ fn file_kind_by(heads: u32, guess: &Option<Guess>, unknown: u32) -> FileKind
 fn count_unknown(geometry: &Geometry, views: &[SlotView]) -> u32
     requires all { length views.now ≡ geometry.now.slots }
     ensures { (image : List ℕ) → AreShown geometry.now.slot_size geometry.now.slots image views.now
-        → result ≡ count_below (λ k. is_unknown (kind_at geometry.now.slot_size geometry.now.slots image k)) geometry.now.slots }
+        → result ≡ unknown_in geometry.now.slot_size geometry.now.slots image }
 {
     let mut unknown = 0;
     for slot in 0..geometry.slots as u32 {

@@ -1,7 +1,7 @@
 // What a slot is.
-ghost use Rattle.std.specs.Prelude.{◌≡◌, false};
+ghost use Rattle.std.specs.Prelude.{◌≡◌};
 ghost use Rattle.record_slots.specs.Slots.{numbers_of};
-ghost use Rattle.image_survey.specs.Kinds.{kind_by};
+ghost use Rattle.image_survey.specs.Kinds.{kind_by, kind_by_marks};
 ghost use Rattle.image_survey.specs.Counts.{is_free, is_record, is_second_copy};
 
 use crate::Look;
@@ -79,7 +79,7 @@ pub fn kind_of(
 // What a slot is that no record has, and that is not erased.
 #[tactic(auto, using(std::proofs::lemmas::Bool::Decides::nat_tests))]
 fn kind_by_marks(head: &Head, tail: u8) -> SlotKind
-    ensures { result ≡ kind_by false false false false (numbers_of head.now) tail }
+    ensures { result ≡ kind_by_marks (numbers_of head.now) tail }
 {
     if head.gate == GATE_OPEN {
         if head.kill == NOT_KILLED {

@@ -1,7 +1,7 @@
 -- A file that is told to be a flash has the size of its geometry.
 use Rattle.std.proofs.Common.{◌∙◌, ℕ, ◌*◌, ◌==◌, Bool, true, false, ◌||◌, if◌then◌else◌, List, length, codes, Option, Some, None, IfSome, sym, ap, subst}
 use Rattle.image_survey.specs.declared.heads.Guess.{Guess}
-use Rattle.image_survey.specs.Heads.{IsGuess, IsMost}
+use Rattle.image_survey.specs.Heads.{IsGuess, IsMost, last_turn}
 use Rattle.show_findings.specs.declared.kinds.FileKind.{FileKind}
 use Rattle.show_findings.specs.declared.kinds.FileKind.TheVariants.{Dump, Qemu, Medium, Records, Tables, Packed, MachineCheck, Dmesg, Empty, Blocks, Blank, Unknown}
 use Rattle.show_findings.specs.Kinds.{IsKind, IsKindBy, first_of, kind_of_guess, told_kind}
@@ -44,7 +44,7 @@ first_sized bytes None second none sized = sized
 first_sized bytes (Some kind) second sized other = sized
 
 -- a geometry suits the file whose geometry it seems to be
-guess_sized : (guess : Guess) (bytes : List ℕ) → IsMost bytes (17 * 256) guess → HasSize guess.geometry bytes
+guess_sized : (guess : Guess) (bytes : List ℕ) → IsMost bytes last_turn guess → HasSize guess.geometry bytes
 guess_sized guess bytes most =
     let geometry = guess.geometry in
     sym (ap (λ (n : ℕ). n * geometry.slots) geometry.product ∙ ap (λ (n : ℕ). geometry.sector * geometry.per_slot * n) most.slots ∙ most.suits.whole)
