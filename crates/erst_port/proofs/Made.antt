@@ -17,7 +17,7 @@ use Rattle.erst_port.proofs.Logs.{Enters}
 -- what is asked for may be put there
 may_put : (sector : ℕ) (image : List ℕ) (at : ℕ) (content : Content) → IsAsked sector image at content → MayPut sector image (kind_of content) at (bytes_of content)
 may_put sector image at (contents.Program bytes) asked =
-    record { programs = λ _. asked.0; few = λ _. asked.1; erases = λ erase. absurd (let other : Program ≡ Erase = erase in cc) }
+    record { programs = λ _. asked.0; few = λ _. (asked.1, asked.2); erases = λ erase. absurd (let other : Program ≡ Erase = erase in cc) }
 may_put sector image at (contents.Erase len) asked =
     record {
       programs = λ program. absurd (let other : Erase ≡ Program = program in cc);
