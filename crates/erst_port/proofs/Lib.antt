@@ -3,7 +3,6 @@ pub mod Puts
 pub mod Dues
 pub mod Logs
 pub mod Made
-pub mod SpanLemmas
 pub mod LookLemmas
 pub mod ActLemmas
 pub mod TableLemmas

@@ -2,7 +2,6 @@ pub mod Pasts
 pub mod Dues
 pub mod Contents
 pub mod Logs
-pub mod Spans
 pub mod States
 pub mod Places
 pub mod PortState

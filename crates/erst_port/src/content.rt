@@ -1,11 +1,11 @@
 // What a change puts into its range.
 ghost use Rattle.std.specs.Prelude.{◌≡◌, ◌+◌, ◌*◌, ◌≤◌, length};
 ghost use Rattle.base_model.specs.Bytes.{put_at, SameOutside};
-ghost use Rattle.erst_port.specs.Spans.{AreErasedBut};
+ghost use Rattle.flash_model.specs.Spans.{AreErasedBut};
 
 use crate::due::Kind;
 use crate::log::Range;
-use crate::spans::{Span, erase, program};
+use flash_model::spans::{Span, erase, program};
 
 /// The bytes that are programmed, or how many are erased.
 #[derive(Clone, Copy)]

@@ -19,7 +19,6 @@ mod open;
 mod past;
 mod port;
 mod saving;
-mod spans;
 mod table;
 mod windows;
 

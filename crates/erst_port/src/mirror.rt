@@ -6,13 +6,13 @@ ghost use Rattle.base_model.specs.Flash.{next_count};
 ghost use Rattle.erst_port.specs.Contents.{bytes_of, IsAsked};
 ghost use Rattle.erst_port.specs.Dues.{IsDue, IsLogged, log_room};
 ghost use Rattle.erst_port.specs.Logs.{AreEntries, IsLast, IsFilled};
-ghost use Rattle.erst_port.specs.Spans.{AreErasedBut};
+ghost use Rattle.flash_model.specs.Spans.{AreErasedBut};
 
 use crate::content::Content;
 use crate::due::{Due, Kind};
 use crate::log::{Log, Range, log_room};
 use crate::past::{Before, Past};
-use crate::spans::{Span, all_bytes};
+use flash_model::spans::{Span, all_bytes};
 use flash_model::{Flash, FlashFailed, copy_range, next_count};
 use std::alloc::{AllocError, Global};
 

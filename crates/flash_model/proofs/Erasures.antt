@@ -1,6 +1,7 @@
 -- How far bytes are erased.
 use Rattle.std.proofs.Common.{◌≡◌, ℕ, ◌+◌, ◌-◌, ◌<◌, ◌≤◌, List, [], ◌∷◌, ◌++◌, length, take, drop, replicate, get_or, sym, ap, subst, ◌∙◌, arith, drop-cons, take-add, length-append}
-use Rattle.std.proofs.lemmas.List.{take-append-drop, drop-drop, length-replicate, replicate-append-replicate}
+use Rattle.std.proofs.Math.Seq.{take-length}
+use Rattle.std.proofs.lemmas.List.{take-append-drop, drop-drop, append_assoc, length-drop, length-replicate, replicate-append-replicate}
 use Rattle.base_model.specs.Bytes.{part, put_at, SameOutside}
 use Rattle.base_model.proofs.BytesLemmas.{length-part, part-part, part-whole, part-append_left, part-append_right, part-before, part-after, part-put_at, SameOutside-put_at, SameOutside-wider, is_put_at}
 use Rattle.flash_model.specs.Content.{IsErasedAround}
@@ -121,3 +122,33 @@ put-kept image at len start n fits around =
 
 pub around-within : (image : List ℕ) (at len start n : ℕ) → at + len ≤ length image → IsErasedAround start n (part image at len) → at + start + n ≤ length image
 around-within image at len start n fits around = let whole = length-part image at len fits in omega (arith, around.within)
+
+grouped : (a b c d e : List ℕ) → a ++ b ++ c ++ (d ++ e) ≡ a ++ (b ++ c ++ d) ++ e
+grouped a b c d e =
+    append_assoc (a ++ b) c (d ++ e) ∙ append_assoc a b (c ++ (d ++ e))
+    ∙ ap (λ (xs : List ℕ). a ++ xs) (sym (append_assoc b c (d ++ e)) ∙ sym (append_assoc (b ++ c) d e))
+    ∙ sym (append_assoc a (b ++ c ++ d) e)
+
+-- bytes of which all before and behind a span are erased, by those of the span
+pub among-within : (bytes : List ℕ) (from to before after : ℕ) (kept : List ℕ) → from ≤ to → IsErasedAround from (to - from) bytes
+    → among_erased before kept after ≡ take (to - from) (drop from bytes) → among_erased (from + before) kept (after + (length bytes - to)) ≡ bytes
+unfolding part
+among-within bytes from to before after kept order around middle =
+    let rest = length bytes - to in
+    let span = take (to - from) (drop from bytes) in
+    let end : from + (to - from) ≡ to = omega (arith, order) in
+    let behind : take rest (drop to bytes) ≡ replicate rest 0xFF =
+    subst (λ (k : ℕ). take (length bytes - k) (drop k bytes) ≡ replicate (length bytes - k) 0xFF) end around.after in
+    let last : take rest (drop to bytes) ≡ drop to bytes = ap (λ (k : ℕ). take k (drop to bytes)) (sym (length-drop to bytes)) ∙ take-length (drop to bytes) in
+    let joined : drop (to - from) (drop from bytes) ≡ drop to bytes = drop-drop (to - from) from bytes ∙ ap (λ (k : ℕ). drop k bytes) end in
+    let parted : replicate (from + before) 0xFF ++ kept ++ replicate (after + rest) 0xFF ≡ replicate from 0xFF ++ (replicate before 0xFF ++ kept ++ replicate after 0xFF) ++ replicate rest 0xFF =
+    ap (λ (xs : List ℕ). xs ++ kept ++ replicate (after + rest) 0xFF) (sym (replicate-append-replicate from before 0xFF))
+    ∙ ap (λ (xs : List ℕ). replicate from 0xFF ++ replicate before 0xFF ++ kept ++ xs) (sym (replicate-append-replicate after rest 0xFF))
+    ∙ grouped (replicate from 0xFF) (replicate before 0xFF) kept (replicate after 0xFF) (replicate rest 0xFF) in
+    parted
+    ∙ ap (λ (xs : List ℕ). replicate from 0xFF ++ xs ++ replicate rest 0xFF) middle
+    ∙ ap (λ (xs : List ℕ). xs ++ span ++ replicate rest 0xFF) (sym around.before)
+    ∙ ap (λ (xs : List ℕ). take from bytes ++ span ++ xs) (sym behind ∙ last ∙ sym joined)
+    ∙ append_assoc (take from bytes) span (drop (to - from) (drop from bytes))
+    ∙ ap (λ (xs : List ℕ). take from bytes ++ xs) (take-append-drop (to - from) (drop from bytes))
+    ∙ take-append-drop from bytes

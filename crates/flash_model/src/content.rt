@@ -5,6 +5,7 @@ ghost use Rattle.base_model.specs.Bytes.{part, put_at};
 use crate::Tear;
 use crate::ranges::fill_range;
 use crate::replaced::{Kept, Replaced};
+use crate::spans::Span;
 
 const ERASED: u8 = 0xFF;
 
@@ -12,11 +13,11 @@ const ZERO: u8 = 0x00;
 
 const MARK: u8 = 0xA5;
 
-/// Bytes, or so many erased ones.
+/// Bytes, or so many erased ones, where no more than a span of what stands there is not erased.
 #[derive(Clone, Copy)]
 pub(crate) enum Content<'a> {
     Bytes(&'a [u8]),
-    Erased { len: usize },
+    Erased { len: usize, span: Span },
 }
 
 impl Content<'_> {
@@ -28,7 +29,7 @@ impl Content<'_> {
     {
         match self {
             Content::Bytes(bytes) => bytes.len(),
-            Content::Erased { len } => len,
+            Content::Erased { len, span: _ } => len,
         }
     }
 
@@ -40,7 +41,7 @@ impl Content<'_> {
     {
         match self {
             Content::Bytes(_) => Replaced::erased(old),
-            Content::Erased { len: _ } => Replaced::of(old),
+            Content::Erased { len: _, span } => Replaced::within(old, span),
         }
     }
 
@@ -52,7 +53,7 @@ impl Content<'_> {
     {
         match self {
             Content::Bytes(bytes) => image[at..at + bytes.len()].copy_from_slice(bytes),
-            Content::Erased { len: _ } => fill_range(image, at + kept.at, kept.len, ERASED),
+            Content::Erased { len: _, span: _ } => fill_range(image, at + kept.at, kept.len, ERASED),
         }
     }
 

@@ -11,6 +11,7 @@ mod power;
 mod ranges;
 mod replaced;
 mod sim_flash;
+pub mod spans;
 mod tear;
 
 pub use counts::next_count;

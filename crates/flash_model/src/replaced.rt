@@ -2,6 +2,7 @@
 ghost use Rattle.std.specs.Prelude.{◌≡◌, ◌≢◌, ◌+◌, ◌-◌, ◌<◌, ◌≤◌, IsTrue, length, take, drop, replicate, slice_index};
 ghost use Rattle.base_model.specs.Bytes.{part};
 
+use crate::spans::Span;
 use std::marker::Model;
 
 const ERASED: u8 = 0xFF;
@@ -50,6 +51,20 @@ impl<'a> Replaced<'a> {
             before,
             kept: &rest[..end],
             after: rest.len() - end,
+        }
+    }
+
+    /// These bytes, of which all before and behind a span are erased.
+    pub fn within(bytes: &'a [u8], span: Span) -> Replaced<'a>
+        requires order { span.from ≤ span.to }
+        requires around { IsErasedAround span.from (span.to - span.from) bytes.now }
+        ensures { result ≡ bytes.now }
+    {
+        let middle = Replaced::of(&bytes[span.from..span.to]);
+        Replaced {
+            before: span.from + middle.before,
+            kept: middle.kept,
+            after: middle.after + (bytes.len() - span.to),
         }
     }
 

@@ -1,12 +1,14 @@
 // A flash in memory.
-ghost use Rattle.std.specs.Prelude.{true, ◌≡◌, ◌↔◌, ℕ, ◌+◌, ◌*◌, ◌^◌, ◌<◌, ◌≤◌, [], ◌∷◌, ◌++◌, length, replicate, Contains, Result, OnOk, OnErr, is_err, IsErr, IsTrue};
+ghost use Rattle.std.specs.Prelude.{true, ◌≡◌, ◌↔◌, ℕ, ◌+◌, ◌*◌, ◌^◌, ◌<◌, ◌≤◌, List, [], ◌∷◌, ◌++◌, length, replicate, Contains, Result, OnOk, OnErr, is_err, IsErr, IsTrue};
 ghost use Rattle.base_model.specs.Bytes.{part, put_at};
+ghost use Rattle.flash_model.specs.Spans.{AreErasedBut};
 ghost use Rattle.base_model.specs.Flash.{FlashState, OnlyReads, AsksChange, IsErased, restart, next_count, unpowered_after};
 
 use crate::content::Content;
 use crate::counts::next_count;
 use crate::journal::Journal;
 use crate::power::Power;
+use crate::spans::{Span, all_bytes, around, clear, widen};
 use crate::{Cut, Flash, FlashFailed, Tear};
 use std::alloc::Global;
 use std::marker::Model;
@@ -20,6 +22,8 @@ use std::marker::Model;
 pub struct SimFlash {
     sector: u32,
     image: Vec<u8>,
+    // Of each sector, which bytes may be others than ones; of none where there was no memory for it.
+    spans: Vec<Span>,
     journal: Journal,
     power: Power,
     failing: Vec<(u64, Tear)>,
@@ -34,8 +38,9 @@ pub struct SimFlash {
 }
 
 impl Model for SimFlash {
-    ghost use Rattle.std.specs.Prelude.{◌≤◌};
+    ghost use Rattle.std.specs.Prelude.{◌≤◌, ◌*◌, length};
     ghost use Rattle.flash_model.specs.Journal.{told_by, AreBelow};
+    ghost use Rattle.flash_model.specs.Spans.{AreErasedBut};
     ghost use Rattle.flash_model.specs.Simulation.{Simulation};
 
     ghost Value = { Simulation };
@@ -53,7 +58,9 @@ impl Model for SimFlash {
       restarts = flash.restarts;
     } };
 
-    ghost invariant = { λ flash. AreBelow flash.steps flash.journal × (flash.starved ≤ flash.steps) };
+    ghost invariant = { λ flash. AreBelow flash.steps flash.journal × (flash.starved ≤ flash.steps)
+        × (length flash.spans.items * flash.sector ≤ length flash.image.items)
+        × AreErasedBut flash.spans.items flash.sector flash.image.items };
 }
 
 impl SimFlash {
@@ -86,9 +93,11 @@ impl SimFlash {
         } }
         ensures tells { ⟦<SimFlash as Flash>⟧.tells }
     {
+        let spans = known_of(alloc, image.len(), sector as usize);
         SimFlash {
             sector,
             image,
+            spans,
             journal: Journal::new(alloc),
             power: Power::new(cut),
             failing,
@@ -149,11 +158,23 @@ impl SimFlash {
             return Err(FlashFailed);
         }
         content.leave(tear, &mut self.image, at, kept);
+        widen(&mut self.spans, self.sector as usize, at, content.len());
         if tear.is_some() {
             self.faults = next_count(self.faults);
             return Err(FlashFailed);
         }
         Ok(())
+    }
+}
+
+// The spans of the sectors of so many bytes, of which nothing is known; none where there is no memory for them.
+fn known_of(alloc: Global, size: usize, sector: usize) -> Vec<Span>
+    ensures within { length result.items * sector ≤ size }
+    ensures known { (image : List ℕ) → AreErasedBut result.items sector image }
+{
+    match all_bytes(alloc, size, sector) {
+        Ok(spans) => spans,
+        Err(_) => Vec::new(alloc),
     }
 }
 
@@ -237,7 +258,13 @@ impl Flash for SimFlash {
             (replicate self.old.sector_size 0xFF) self.new }
     {
         let len = self.sector as usize;
-        self.change(sector as usize * len, Content::Erased { len })
+        let number = sector as usize;
+        let span = around(&self.spans, len, number);
+        let made = self.change(number * len, Content::Erased { len, span });
+        if made.is_ok() {
+            clear(&mut self.spans, len, number);
+        }
+        made
     }
 
     fn steps(&self) -> u64 {

@@ -9,7 +9,8 @@ use Rattle.base_model.proofs.BytesLemmas.{part-before, part-after, part-append, 
 use Rattle.base_model.specs.Flash.{IsErased}
 use Rattle.record_model.specs.Records.{Head, head_at, tail_at, slot_at, is_part, part_len, first_head, HasPart, gate_open, tail_mark, gate_closed, not_killed}
 use Rattle.record_model.specs.Filling.{Target, first_target, part_target, IsBegun, IsFilled}
-use Rattle.record_model.proofs.SlotLemmas.{head_at-before, tail_at-after, erased_byte, IsErased-within, IsErased-after}
+use Rattle.record_model.proofs.SlotLemmas.{head_at-before, tail_at-after, erased_byte}
+use Rattle.base_model.proofs.ErasedLemmas.{IsErased-within, IsErased-after}
 use Rattle.record_model.proofs.FillLemmas.{StaysDown-gate, StaysDown-tail}
 use Rattle.record_model.proofs.MarkLemmas.{tail_is_not_erased}
 use Rattle.record_model.proofs.Words.{StaysDown}

@@ -9,7 +9,8 @@ use Rattle.base_model.specs.Flash.{IsErased}
 use Rattle.base_model.specs.Layout.{Layout}
 use Rattle.record_model.specs.Records.{tail_at, slot_at, is_up, gate_open, tail_mark}
 use Rattle.record_model.specs.Filling.{IsCleanFromHead, IsCleanFromTail}
-use Rattle.record_model.proofs.SlotLemmas.{head_at-before, tail_at-after, down_by_gate, down_by_tail, down_by_head, erased_byte, IsErased-before, IsErased-after, IsErased-append}
+use Rattle.record_model.proofs.SlotLemmas.{head_at-before, tail_at-after, down_by_gate, down_by_tail, down_by_head, erased_byte}
+use Rattle.base_model.proofs.ErasedLemmas.{IsErased-before, IsErased-after, IsErased-append}
 use Rattle.record_model.proofs.MarkLemmas.{open_is_not_erased, tail_is_not_erased}
 use Rattle.record_model.proofs.Words.{StaysDown}
 

@@ -7,16 +7,10 @@ use Rattle.std.proofs.lemmas.Bool.{cases_eq, cases_order, eqb-true, and_parts, b
 use Rattle.base_model.specs.Bytes.{part, little, number_at, SameOutside}
 use Rattle.base_model.proofs.BytesLemmas.{part-before, part-after, number_at-before, number_at-after, part-part, part-append, SameOutside-wider}
 use Rattle.base_model.specs.Flash.{IsErased}
+use Rattle.base_model.proofs.ErasedLemmas.{slots_apart}
 use Rattle.record_model.specs.Records.{Head, Slot, head_at, tail_at, is_upright, slot_at, is_up, Entry, entry_at, selected, stored_in, is_taken, OnlyFirstUp, gate_open, tail_mark, not_killed}
 use Rattle.record_model.proofs.LiveLemmas.{law_entries, law_only, IsKilled}
 use Rattle.record_model.proofs.Words.{DiffersInFreeSlot}
-
--- a slot ends before a later one begins
-pub slots_apart : (k j size : ℕ) → k < j → k * size + size ≤ j * size
-slots_apart k j size h =
-    let next : (k + 1) * size ≡ k * size + 1 * size = add-mul k 1 size in
-    let below : (k + 1) * size ≤ j * size = mul-le-mul_right size (omega arith) in
-    omega arith
 
 -- a slot lies within all of them
 pub slot_within : (slot size slots : ℕ) → slot < slots → slot * size + size ≤ size * slots
@@ -149,32 +143,6 @@ erased_byte image place len at erased low high =
     ∙ ap (λ (xs : List ℕ). little (take 1 (drop (at - place) xs))) erased
     ∙ ap (λ (xs : List ℕ). little (take 1 xs)) (drop-replicate (at - place) len 0xFF)
     ∙ ap little (take-replicate 1 (len - (at - place)) 0xFF rest)
-
--- a range within an erased one is erased
-pub IsErased-within : (image : List ℕ) (place len at n : ℕ) → IsErased image place len → place ≤ at → at + n ≤ place + len → IsErased image at n
-unfolding part
-IsErased-within image place len at n erased low high =
-    let inner : place + (at - place) ≡ at = omega arith in
-    let fits : (at - place) + n ≤ len = omega arith in
-    let rest : n ≤ len - (at - place) = omega arith in
-    ap (λ (k : ℕ). part image k n) (sym inner)
-    ∙ sym (part-part image place len (at - place) n fits)
-    ∙ ap (λ (xs : List ℕ). take n (drop (at - place) xs)) erased
-    ∙ ap (take n) (drop-replicate (at - place) len 0xFF)
-    ∙ take-replicate n (len - (at - place)) 0xFF rest
-
--- an erased range before or behind a change stays so
-pub IsErased-before : (place len at n : ℕ) (old new : List ℕ) → SameOutside place len old new → at + n ≤ place → IsErased old at n → IsErased new at n
-IsErased-before place len at n old new same h erased = part-before place len at n old new same h ∙ erased
-
-pub IsErased-after : (place len at n : ℕ) (old new : List ℕ) → SameOutside place len old new → place + len ≤ at → IsErased old at n → IsErased new at n
-IsErased-after place len at n old new same h erased = part-after place len at n old new same h ∙ erased
-
--- two erased ranges that adjoin
-pub IsErased-append : (image : List ℕ) (place n m : ℕ) → IsErased image place n → IsErased image (place + n) m → IsErased image place (n + m)
-IsErased-append image place n m first second =
-    sym (part-append image place n m) ∙ ap (λ (xs : List ℕ). xs ++ part image (place + n) m) first ∙ ap (λ (xs : List ℕ). replicate n 0xFF ++ xs) second
-    ∙ replicate-append-replicate n m 0xFF
 
 -- a change of the kill byte of an upright slot: it is as it was, or not upright
 pub kill_byte : (size slots j : ℕ) (old new : List ℕ) → 64 ≤ size → is_up (size - 64) slots (slot_at size old j) ≡ true → SameOutside (j * size + 1) 1 old new

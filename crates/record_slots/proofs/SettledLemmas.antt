@@ -12,7 +12,8 @@ use Rattle.record_model.specs.Records.{Slot, head_at, tail_at, slot_at, is_up, E
 use Rattle.base_model.proofs.CrashLemmas.{Leaves-none, Leaves-change, Leaves-weaker, Leaves-then, Leaves-exit}
 use Rattle.record_model.proofs.ChosenLemmas.{IsChosen-unique, IsChosen-without}
 use Rattle.record_model.proofs.LiveLemmas.{IsKilled, killed_others, kill_only, down_entry}
-use Rattle.record_model.proofs.SlotLemmas.{slots_apart, upright_parts, kill_byte, down_by_kill}
+use Rattle.record_model.proofs.SlotLemmas.{upright_parts, kill_byte, down_by_kill}
+use Rattle.base_model.proofs.ErasedLemmas.{slots_apart}
 use Rattle.record_model.proofs.KillLemmas.{scan_kill, taken_from}
 use Rattle.record_model.proofs.CountLemmas.{taken_by}
 use Rattle.record_model.proofs.PartsLemmas.{entry_len}

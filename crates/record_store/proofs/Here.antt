@@ -10,7 +10,7 @@ use Rattle.base_model.specs.Flash.{IsErased}
 use Rattle.record_model.specs.Records.{Head, head_at, part_len, named}
 use Rattle.record_model.specs.Filling.{Target, IsBegun, IsFilled}
 use Rattle.record_model.specs.Plan.{target_of}
-use Rattle.record_model.proofs.SlotLemmas.{slots_apart, IsErased-within}
+use Rattle.base_model.proofs.ErasedLemmas.{slots_apart, IsErased-within}
 use Rattle.record_model.proofs.BegunLemmas.{length-bytes, length-first, part_len-le}
 use Rattle.record_store.specs.declared.draft.Draft.{Draft}
 use Rattle.flash_model.specs.Layouts.{layout_of}

@@ -1,8 +1,10 @@
-use Rattle.std.proofs.Common.{◌≡◌, ℕ, ◌≤◌, true, false, List, [], ◌∷◌, ◌++◌, subst, ap, is_some, ◌+◌, ◌-◌, ◌^◌, length, refl, sym, ◌∙◌, arith, inl, inr}
+use Rattle.std.proofs.Common.{◌≡◌, ℕ, ◌≤◌, true, false, List, [], ◌∷◌, ◌++◌, subst, ap, is_some, ◌+◌, ◌-◌, ◌*◌, ◌^◌, length, refl, sym, ◌∙◌, arith, inl, inr}
 use Rattle.std.proofs.lemmas.List.{with_items_is}
 use Rattle.base_model.specs.Bytes.{SameOutside, part}
 use Rattle.flash_model.specs.Content.{bytes_of, IsErasedAround, MayReplace}
 use Rattle.flash_model.specs.Journal.{Noted, first_changes}
+use Rattle.flash_model.specs.Spans.{AreErasedBut}
+use Rattle.flash_model.specs.declared.spans.Span.{Span}
 use Rattle.flash_model.specs.contracts.sim_flash.SimFlash.{the_view}
 use Rattle.flash_model.specs.declared.tear.Tear.{Tear}
 use Rattle.flash_model.specs.declared.power.Power.TheVariants.{Lost}
@@ -11,7 +13,7 @@ use Rattle.flash_model.proofs.Telling.{length-first_changes, first_changes-unnot
 use Rattle.flash_model.proofs.Changes.{SameOutside-image_left, fate_of-last, fate_of-lost, fate_of-powered, at_err, at_ok, ChangeFails-last, ChangeFails-lost, ChangeFails-reaches, ChangeFails-whole, faults_after-torn, faults_after-whole}
 use Rattle.flash_model.specs.Simulation.{Reaches, fate_of}
 use Rattle.flash_model.proofs.sim_flash.SimFlash.change.Goals as goal
-use Rattle.flash_model.proofs.sim_flash.SimFlash.change.Goals.{After-note-noted, After-leave}
+use Rattle.flash_model.proofs.sim_flash.SimFlash.change.Goals.{After-note-noted, After-leave, After-widen}
 
 -- power is on, and one more change can be counted
 powered : (c : After-note-noted) → fate_of (the_view c.self.inside) ≡ Reaches (tear_at c.self.inside.power c.self.inside.failing.items (steps_of (the_view c.self.inside)))
@@ -27,6 +29,12 @@ torn_so c = sym (c.tear_at-tear.ensures ∙ ap (λ (failing : List (ℕ × Tear)
 left_so : (c : After-leave) → c.leave.new.image ≡ image_left c.tear_at-tear.result c.self.inside.image.items c.args.at (bytes_of c.args.content)
 left_so c = c.leave.ensures ∙ ap (λ (image : List ℕ). image_left c.tear_at-tear.result image c.args.at (bytes_of c.args.content)) c.deref_mut.ensures.value
 
+same_so : (c : After-leave) → SameOutside c.args.at (length (bytes_of c.args.content)) c.self.inside.image.items c.leave.new.image
+same_so c =
+    let within : c.args.at + length (bytes_of c.args.content) ≤ length c.self.inside.image.items = rw (← c.self.view_is) at c.requires.within in
+    subst (λ (image : List ℕ). SameOutside c.args.at (length (bytes_of c.args.content)) c.self.inside.image.items image) (sym (left_so c))
+    (SameOutside-image_left c.tear_at-tear.result c.self.inside.image.items c.args.at (bytes_of c.args.content) within)
+
 told_so : (c : After-leave) → first_changes c.note-noted.new.self (c.self.inside.steps + 1) c.leave.new.image
     ≡ first_changes c.self.inside.journal c.self.inside.steps c.self.inside.image.items ++ (record { before = c.self.inside.image.items; at = c.args.at; len = length (bytes_of c.args.content) }) ∷ []
 told_so c =
@@ -35,9 +43,21 @@ told_so c =
     let replaced = c.replaced-replaced.ensures ∙ part-range c.self.inside.image.items c.deref-2.result.now c.args.at c.len.result (length (bytes_of c.args.content)) c.deref-2.ensures.value c.len.ensures in
     ap (λ (journal : List Noted). first_changes journal (c.self.inside.steps + 1) c.leave.new.image) noted
     ∙ first_changes-noted c.self.inside.journal c.self.inside.steps c.args.at (length (bytes_of c.args.content)) c.self.inside.image.items c.leave.new.image
-    _ c.self.invariant.0 within replaced
-    (subst (λ (image : List ℕ). SameOutside c.args.at (length (bytes_of c.args.content)) c.self.inside.image.items image) (sym (left_so c))
-    (SameOutside-image_left c.tear_at-tear.result c.self.inside.image.items c.args.at (bytes_of c.args.content) within))
+    _ c.self.invariant.0 within replaced (same_so c)
+
+-- what is known of its sectors then
+spans_so : (c : After-widen) → SameOutside c.args.at (length (bytes_of c.args.content)) c.self.inside.image.items c.leave.new.image
+    → (length c.widen.new.spans * c.self.inside.sector ≤ length c.leave.new.image) × AreErasedBut c.widen.new.spans c.self.inside.sector c.leave.new.image
+spans_so c same =
+    let spans = c.deref_mut-2.ensures.value in
+    let count : length c.widen.new.spans ≡ length c.self.inside.spans.items = c.widen.ensures.sectors ∙ ap (length {A = Span}) spans in
+    let within : length c.self.inside.spans.items * c.self.inside.sector ≤ length c.self.inside.image.items = c.self.invariant.2 in
+    (
+      rw (count, same.same_length) within,
+      c.widen.ensures.known c.self.inside.image.items c.leave.new.image
+      (subst (λ (n : ℕ). SameOutside c.args.at n c.self.inside.image.items c.leave.new.image) (sym c.len-2.ensures) same)
+      (subst (λ (known : List Span). AreErasedBut known c.self.inside.sector c.self.inside.image.items) (sym spans) c.self.invariant.3)
+    )
 
 pub replaced-replaced-requires-clause-may : goal.replaced-replaced-requires-clause-may
 replaced-replaced-requires-clause-may c =
@@ -63,7 +83,7 @@ returns-then-self-clause-fails c =
     rw (← c.self.view_is) (λ _. ChangeFails-last _ _ (steps ∙ c.if-self.true), λ _. refl)
 
 pub invariant_of-self-then-is_lost : goal.invariant_of-self-then-is_lost
-invariant_of-self-then-is_lost c = (AreBelow-more _ _ c.self.invariant.0, omega arith)
+invariant_of-self-then-is_lost c = (AreBelow-more _ _ c.self.invariant.0, omega arith, c.self.invariant.2, c.self.invariant.3)
 
 pub returns-then-is_lost-clause-after : goal.returns-then-is_lost-clause-after
 returns-then-is_lost-clause-after c =
@@ -83,7 +103,7 @@ pub invariant_of-self-then-is_err : goal.invariant_of-self-then-is_err
 invariant_of-self-then-is_err c =
     let same : c.note-noted.new.self ≡ c.self.inside.journal = at_err c.note-noted.result (sym c.is_err.ensures.value ∙ c.if-is_err.true) c.note-noted.ensures.err in
     let starved : c.self.inside.starved ≤ c.self.inside.steps = c.self.invariant.1 in
-    (rw same (AreBelow-more _ _ c.self.invariant.0), omega arith)
+    (rw same (AreBelow-more _ _ c.self.invariant.0), omega arith, c.self.invariant.2, c.self.invariant.3)
 
 pub returns-then-is_err-clause-after : goal.returns-then-is_err-clause-after
 returns-then-is_err-clause-after c =
@@ -100,9 +120,13 @@ returns-then-is_err-clause-fails c =
 
 pub invariant_of-self-then-is_some : goal.invariant_of-self-then-is_some
 invariant_of-self-then-is_some c =
+    let here = goal.at.invariant_of-self-then-is_some c in
     let noted = at_ok c.note-noted.result (sym c.is_err.ensures.value ∙ c.if-is_err.false) c.note-noted.ensures.ok in
     let starved : c.self.inside.starved ≤ c.self.inside.steps = c.self.invariant.1 in
-    (rw noted (AreBelow-append _ _ c.self.invariant.0), omega arith)
+    let image = with_items_is c.self.inside.image c.leave.new.image (c.leave.auto.image ∙ c.deref_mut.ensures.len) in
+    let spans = with_items_is c.self.inside.spans c.widen.new.spans (c.widen.auto.spans ∙ c.deref_mut-2.ensures.len) in
+    let known = spans_so here.After-widen (same_so here.After-leave) in
+    (rw noted (AreBelow-append _ _ c.self.invariant.0), omega arith, rw (image, spans) known.0, rw (image, spans) known.1)
 
 pub returns-then-is_some-clause-after : goal.returns-then-is_some-clause-after
 returns-then-is_some-clause-after c =
@@ -122,9 +146,13 @@ returns-then-is_some-clause-fails c =
 
 pub invariant_of-self-else-is_some : goal.invariant_of-self-else-is_some
 invariant_of-self-else-is_some c =
+    let here = goal.at.invariant_of-self-else-is_some c in
     let noted = at_ok c.note-noted.result (sym c.is_err.ensures.value ∙ c.if-is_err.false) c.note-noted.ensures.ok in
     let starved : c.self.inside.starved ≤ c.self.inside.steps = c.self.invariant.1 in
-    (rw noted (AreBelow-append _ _ c.self.invariant.0), omega arith)
+    let image = with_items_is c.self.inside.image c.leave.new.image (c.leave.auto.image ∙ c.deref_mut.ensures.len) in
+    let spans = with_items_is c.self.inside.spans c.widen.new.spans (c.widen.auto.spans ∙ c.deref_mut-2.ensures.len) in
+    let known = spans_so here.After-widen (same_so here.After-leave) in
+    (rw noted (AreBelow-append _ _ c.self.invariant.0), omega arith, rw (image, spans) known.0, rw (image, spans) known.1)
 
 pub returns-clause-after : goal.returns-clause-after
 returns-clause-after c =

@@ -1,7 +1,7 @@
 -- What is known of the sectors of a flash in memory: all bytes are erased but those of a span of each.
 use Rattle.std.specs.Prelude.{ℕ, ◌+◌, ◌-◌, ◌*◌, ◌<◌, ◌≤◌, List, length, slice_index_or}
 use Rattle.base_model.specs.Flash.{IsErased}
-use Rattle.erst_port.specs.declared.spans.Span.{Span}
+use Rattle.flash_model.specs.declared.spans.Span.{Span}
 
 -- all bytes of the sector at a place are erased but those of a span
 pub record IsErasedBut (span : Span) (sector : ℕ) (image : List ℕ) (place : ℕ) : Type 0 where

@@ -2,10 +2,10 @@ use Rattle.std.proofs.Common.{◌≡◌, ℕ, ◌+◌, ◌*◌, ◌/◌, ◌%◌
 use Rattle.std.proofs.lemmas.Nat.{div-add-mod'}
 use Rattle.std.proofs.lemmas.Bool.{cases_eq}
 use Rattle.base_model.specs.Bytes.{put_at}
-use Rattle.erst_port.specs.declared.spans.Span.{Span}
-use Rattle.erst_port.specs.Spans.{AreErasedBut, IsErasedBut, no_bytes}
-use Rattle.erst_port.proofs.SpanLemmas.{fills_sector, erases, erases_behind, known_of_none}
-use Rattle.erst_port.proofs.spans.erase.Goals as goal
+use Rattle.flash_model.specs.declared.spans.Span.{Span}
+use Rattle.flash_model.specs.Spans.{AreErasedBut, IsErasedBut, no_bytes}
+use Rattle.flash_model.proofs.SpanLemmas.{fills_sector, erases, erases_behind, known_of_none}
+use Rattle.flash_model.proofs.spans.erase.Goals as goal
 
 -- a place where a sector begins
 begins_at : (at sector : ℕ) → at % sector ≡ 0 → at / sector * sector ≡ at

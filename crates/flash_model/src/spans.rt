@@ -1,22 +1,24 @@
-// Which bytes of each sector may be programmed. All others are erased, so that an erase fills no more than these.
-ghost use Rattle.std.specs.Prelude.{◌≡◌, ℕ, ◌+◌, ◌*◌, ◌%◌, ◌^◌, ◌<◌, ◌≤◌, List, length, replicate, IfOk};
-ghost use Rattle.base_model.specs.Bytes.{put_at, SameOutside};
-ghost use Rattle.erst_port.specs.Spans.{AreErasedBut};
+//! Which bytes of each sector may be others than ones. So an erase looks at no more than these, and fills no more.
+ghost use Rattle.std.specs.Prelude.{◌≡◌, ℕ, ◌+◌, ◌-◌, ◌*◌, ◌%◌, ◌^◌, ◌<◌, ◌≤◌, List, length, replicate, IfOk};
+ghost use Rattle.base_model.specs.Bytes.{part, put_at, SameOutside};
+ghost use Rattle.base_model.specs.Flash.{IsErased};
+ghost use Rattle.flash_model.specs.Content.{IsErasedAround};
+ghost use Rattle.flash_model.specs.Spans.{AreErasedBut};
 
-use flash_model::{fill_range, put_range};
+use crate::ranges::{fill_range, put_range};
 use std::alloc::{AllocError, Global};
 
 const ERASED: u8 = 0xFF;
 
 /// The bytes of a sector from `from` up to `to`; none where `to` is not behind `from`.
 #[derive(Clone, Copy)]
-pub(crate) struct Span {
+pub struct Span {
     pub from: usize,
     pub to: usize,
 }
 
 /// The spans of the sectors of a flash of which nothing is known: all bytes.
-pub(crate) fn all_bytes(alloc: Global, size: usize, sector: usize) -> Result<Vec<Span>, AllocError>
+pub fn all_bytes(alloc: Global, size: usize, sector: usize) -> Result<Vec<Span>, AllocError>
     ensures within { IfOk result (λ spans. length spans.items * sector ≤ size) }
     ensures known { IfOk result (λ spans. (image : List ℕ) → AreErasedBut spans.items sector image) }
 {
@@ -36,7 +38,7 @@ fn copies(alloc: Global, span: Span, count: usize) -> Result<Vec<Span>, AllocErr
 }
 
 /// Programs bytes at a place.
-pub(crate) fn program(image: &mut [u8], spans: &mut [Span], sector: usize, at: usize, bytes: &[u8])
+pub fn program(image: &mut [u8], spans: &mut [Span], sector: usize, at: usize, bytes: &[u8])
     requires within { at + length bytes.now ≤ length image.old }
     requires sectors { length spans.old * sector ≤ length image.old }
     requires known { AreErasedBut spans.old sector image.old }
@@ -49,7 +51,7 @@ pub(crate) fn program(image: &mut [u8], spans: &mut [Span], sector: usize, at: u
 }
 
 /// Erases the sector that begins at a place.
-pub(crate) fn erase(image: &mut [u8], spans: &mut [Span], sector: usize, at: usize)
+pub fn erase(image: &mut [u8], spans: &mut [Span], sector: usize, at: usize)
     requires within { at + sector ≤ length image.old }
     requires begins { at % sector ≡ 0 }
     requires known { AreErasedBut spans.old sector image.old }
@@ -75,8 +77,44 @@ pub(crate) fn erase(image: &mut [u8], spans: &mut [Span], sector: usize, at: usi
     };
 }
 
-// Widens the spans of the sectors that have bytes of a range.
-fn widen(spans: &mut [Span], sector: usize, at: usize, len: usize)
+/// Which bytes of a sector may be others than ones: all, where nothing is known of it.
+pub fn around(spans: &[Span], sector: usize, number: usize) -> Span
+    ensures order { result.from ≤ result.to }
+    ensures around { (image : List ℕ) → AreErasedBut spans.now sector image
+        → number * sector + sector ≤ length image
+        → IsErasedAround result.from (result.to - result.from) (part image (number * sector) sector) }
+{
+    if number >= spans.len() {
+        return Span {
+            from: 0,
+            to: sector,
+        };
+    }
+    let span = spans[number];
+    if span.from < span.to {
+        span
+    } else {
+        Span { from: 0, to: 0 }
+    }
+}
+
+/// Notes that a sector was erased.
+pub fn clear(spans: &mut [Span], sector: usize, number: usize)
+    ensures sectors { length spans.new ≡ length spans.old }
+    ensures known { (image : List ℕ) → number * sector + sector ≤ length image
+        → IsErased image (number * sector) sector → AreErasedBut spans.old sector image
+        → AreErasedBut spans.new sector image }
+{
+    if number < spans.len() {
+        spans[number] = Span {
+            from: sector,
+            to: 0,
+        };
+    }
+}
+
+/// Widens the spans of the sectors that have bytes of a range.
+pub fn widen(spans: &mut [Span], sector: usize, at: usize, len: usize)
     requires end { at + len < 2 ^ 64 }
     requires sectors { length spans.old * sector < 2 ^ 64 }
     ensures sectors { length spans.new ≡ length spans.old }

@@ -1,5 +1,5 @@
-use Rattle.erst_port.proofs.Puts.{rest_stays}
-use Rattle.erst_port.proofs.spans.program.Goals as goal
+use Rattle.flash_model.proofs.SpanLemmas.{rest_stays}
+use Rattle.flash_model.proofs.spans.program.Goals as goal
 
 pub returns-clause-known : goal.returns-clause-known
 returns-clause-known c =
