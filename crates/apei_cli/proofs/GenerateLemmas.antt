@@ -1,6 +1,6 @@
 -- Commands that are generated and played, one after another.
 use Rattle.std.proofs.Common.{◌≡◌, ◌∙◌, ℕ, zero, suc, ◌+◌, Option, Some, None, Result, Ok, Err, Bool, true, false, List, [], ◌∷◌, ◌++◌, length, cond, refl, sym, ap, subst, arith, length-append}
-use Rattle.std.specs.Prelude.{codes, count_by, is_err}
+use Rattle.std.specs.Prelude.{codes, count_by, is_err, ◌^◌, ◌/◌, ◌*◌, ◌%◌}
 use Rattle.std.specs.Result.{result_unwrap_or}
 use Rattle.std.proofs.lemmas.List.{map-append, append-nil}
 use Rattle.std.proofs.lemmas.List.Sums.{sum_by-append}
@@ -8,21 +8,25 @@ use Rattle.script_text.specs.ScriptGrammar.{Line, count, text_of}
 use Rattle.erst_client.specs.declared.errors.ClientError.{ClientError}
 use Rattle.erst_machine.specs.Shown.{changes_of}
 use Rattle.apei_script.specs.Players.{PlayerState}
-use Rattle.apei_script.specs.Words.{reply_at, words_of_write, words_of_read, words_of_clear, words_of_count, words_of_next}
-use Rattle.apei_script.specs.Plays.{IsOwnLine, step_of, one_reply}
+use Rattle.apei_script.specs.Words.{reply_at, words_of_write, words_of_read, words_of_clear, words_of_count, words_of_next, text_of_replies}
+use Rattle.apei_script.specs.Plays.{IsOwnLine, one_reply}
 use Rattle.apei_script.specs.Sessions.{CommandPlayed}
 use Rattle.script_laws.specs.History.{Played, AreOwnLines, blocks_of, reply_of}
 use Rattle.script_lines.specs.Streams.{stream_of}
-use Rattle.apei_cli.specs.Orders.{batch_of}
 use Rattle.apei_cli.specs.declared.generate.command.Command.{Command}
 use Rattle.apei_cli.specs.declared.generate.command.Command.TheVariants.{Write, Clear, Read, Next}
 use Rattle.apei_cli.specs.declared.generate.tally.Tally.{Tally}
-use Rattle.apei_cli.specs.Commands.{number_behind, drawn_of, command_of, line_for, generated_lines}
-use Rattle.apei_cli.specs.Tallies.{counted_kind, counted_refusal, counted_with}
+use Rattle.apei_cli.specs.Commands.{command_of, line_for, generated_lines}
+use Rattle.apei_cli.specs.Tallies.{counted_kind, counted_refusal}
 use Rattle.apei_cli.specs.Generated.{begins, tally_of, IsRefusedIf, PlaysCommands}
-use Rattle.apei_cli.specs.Summaries.{TellsLive, Counted, Refused, WritesText, summary_of, IsGenerated}
+use Rattle.apei_cli.specs.Summaries.{WritesText, summary_of, IsGenerated}
 use Rattle.apei_cli.proofs.Terms.{line_at, is_refusal}
 use Rattle.apei_cli.proofs.RunLemmas.{AreCounted-push, Follows-push, blocks_of-push, counts_after}
+use Rattle.apei_script.specs.Bridged.{changes_in}
+
+-- the number behind another in the sequence of a seed
+abbrev pub number_behind : ℕ → ℕ
+number_behind x = (x * 6364136223846793005 + 1442695040888963407) % 2 ^ 64
 
 -- the number that so many numbers behind one end in
 abbrev pub number_after : ℕ → ℕ → ℕ
@@ -51,8 +55,8 @@ own_line (Read id) = tt
 own_line Next = tt
 
 -- the reply to the line
-reply-as : (line : Line) (words : List ℕ) (new : PlayerState) → reply_of (one_reply line words new) ≡ reply_at (step_of new) words
-reply-as line words new = append-nil (reply_at (step_of new) words)
+reply-as : (line : Line) (words : List ℕ) (new : PlayerState) → (text_of_replies (one_reply line words new).said) ≡ reply_at (changes_in new.machine) words
+reply-as line words new = append-nil (reply_at (changes_in new.machine) words)
 
 -- a reply is a refusal where the command was refused
 pub write_refused : (bytes : List ℕ) (result : Result (Unit {0}) ClientError) (step : ℕ) → is_err result ≡ is_refusal (reply_at step (words_of_write bytes result))
@@ -133,10 +137,10 @@ kind-refused (Read id) tally = refl
 kind-refused Next tally = refl
 
 abbrev refused_in : Played → Bool
-refused_in one = is_refusal (reply_of one)
+refused_in one = is_refusal (text_of_replies one.said)
 
 tally-push : (some : List Played) (one : Played) (command : Command) (refused : Bool) → one.line ≡ line_for command → refused_in one ≡ refused
-    → tally_of (some ++ one ∷ []) ≡ counted_with command refused (tally_of some)
+    → tally_of (some ++ one ∷ []) ≡ counted_refusal refused (counted_kind command (tally_of some))
 tally-push some one command true line is =
     kind-push some one command (count_by refused_in (some ++ one ∷ [])) line
     ∙ ap (λ (f : ℕ). counted_kind command (refusing f (tally_of some))) (count-push refused_in some one true is)
@@ -159,8 +163,8 @@ SoFar-start tells old seed tally is = record {
 }
 
 next_so_far : (tells : Type 0) (old : PlayerState) (seed n : ℕ) (mid new : PlayerState) (number : ℕ) (tally tally_now : Tally) (command : Command) (refused : Bool)
-    → SoFar tells old seed n mid number tally → command ≡ command_of (drawn_of (number_behind number)) → IsRefusedIf refused tells mid (line_for command) new → (tells → changes_of new.machine ≡ step_of new)
-    → tally_now ≡ counted_with command refused tally → SoFar tells old seed (suc n) new (number_behind number) tally_now
+    → SoFar tells old seed n mid number tally → command ≡ command_of ((number_behind number) / 2 ^ 33) → IsRefusedIf refused tells mid (line_for command) new → (tells → changes_of new.machine ≡ (changes_in new.machine))
+    → tally_now ≡ counted_refusal refused (counted_kind command tally) → SoFar tells old seed (suc n) new (number_behind number) tally_now
 next_so_far tells old seed n mid new number tally tally_now command refused sofar made asked counted counts =
     let before = sofar.so_far in
     let one = one_reply (line_for command) asked.words new in
@@ -180,7 +184,7 @@ next_so_far tells old seed n mid new number tally tally_now command refused sofa
         blocks = no_blocks-push before.played (line_for command) asked.words new before.blocks;
         tallied =
             counts
-            ∙ ap (counted_with command refused) before.tallied
+            ∙ ap (λ (t : Tally). counted_refusal refused (counted_kind command t)) before.tallied
             ∙ sym (tally-push before.played one command refused refl (ap is_refusal (reply-as (line_for command) asked.words new) ∙ sym asked.refused_is));
       };
       size = length-append before.played (one ∷ []) ∙ omega (arith, sofar.size);
@@ -188,23 +192,18 @@ next_so_far tells old seed n mid new number tally tally_now command refused sofa
     }
 
 pub SoFar-next : (tells : Type 0) (old : PlayerState) (seed n : ℕ) (mid new : PlayerState) (number : ℕ) (tally tally_now : Tally) (command : Command) (refused : Bool)
-    → SoFar tells old seed n mid number tally → command ≡ command_of (drawn_of (number_behind number)) → IsRefusedIf refused tells mid (line_for command) new → (tells → changes_of new.machine ≡ step_of new)
-    → tally_now ≡ counted_with command refused tally → SoFar tells old seed (n + 1) new (number_behind number) tally_now
+    → SoFar tells old seed n mid number tally → command ≡ command_of ((number_behind number) / 2 ^ 33) → IsRefusedIf refused tells mid (line_for command) new → (tells → changes_of new.machine ≡ (changes_in new.machine))
+    → tally_now ≡ counted_refusal refused (counted_kind command tally) → SoFar tells old seed (n + 1) new (number_behind number) tally_now
 SoFar-next tells old seed n mid new number tally tally_now command refused sofar made asked counted counts =
     subst (λ (k : ℕ). SoFar tells old seed k new (number_behind number) tally_now) (omega arith)
     (next_so_far tells old seed n mid new number tally tally_now command refused sofar made asked counted counts)
 
--- the number of records that the reply to a count tells
-told_by : (answer : Result ℕ ClientError) → TellsLive (words_of_count answer) (result_unwrap_or answer 0)
-told_by (Ok n) = Counted n
-told_by (Err error) = Refused error
-
 -- the commands, and a count of the records behind them
 pub generated : {E : Type 0} (tells told_sink : Type 0) (old : PlayerState) (seed commands : ℕ) (mid new : PlayerState) (tally : Tally) (answer : Result ℕ ClientError) (live step : ℕ)
     (written written_now : List ℕ) (result : Result (Unit {0}) E) → PlaysCommands tells old seed commands mid tally → CommandPlayed tells mid count new (words_of_count answer)
-    → (tells → changes_of new.machine ≡ step_of new) → live ≡ result_unwrap_or answer 0 → step ≡ step_of new
+    → (tells → changes_of new.machine ≡ (changes_in new.machine)) → live ≡ result_unwrap_or answer 0 → step ≡ (changes_in new.machine)
     → (told_sink → WritesText (summary_of commands tally live step) written written_now result)
-    → IsGenerated tells (stream_of told_sink written written_now) old (batch_of seed commands) new result
+    → IsGenerated tells (stream_of told_sink written written_now) old (record { seed = seed; count = commands }) new result
 generated tells told_sink old seed commands mid new tally answer live step written written_now result are asked counted is at text =
     let words = words_of_count answer in
     let last = one_reply count words new in
@@ -217,11 +216,10 @@ generated tells told_sink old seed commands mid new tally answer live step writt
       counted = λ told. AreCounted-push are.played last (are.counted told) (counted told);
       own = AreOwnLines-push are.played last are.own tt;
       blocks = no_blocks-push are.played count words new are.blocks;
-      words = words;
+      answer = answer;
       said = refl;
-      live = live;
-      told_live = subst (λ (n : ℕ). TellsLive words n) (sym is) (told_by answer);
       text = λ told.
-          subst (λ (t : Tally). WritesText (summary_of commands t live (step_of new)) written written_now result) are.tallied
-          (subst (λ (s : ℕ). WritesText (summary_of commands tally live s) written written_now result) at (text told));
+          subst (λ (n : ℕ). WritesText (summary_of commands (tally_of are.played) n (changes_in new.machine)) written written_now result) is
+          (subst (λ (t : Tally). WritesText (summary_of commands t live (changes_in new.machine)) written written_now result) are.tallied
+          (subst (λ (s : ℕ). WritesText (summary_of commands tally live s) written written_now result) at (text told)));
     }

@@ -7,7 +7,7 @@ use Rattle.script_laws.proofs.KeptCauses.{all_causes}
 use Rattle.script_laws.proofs.OrderLemmas.{history_order}
 use Rattle.script_laws.proofs.GivenBack.{history_gives_back}
 use Rattle.script_laws.proofs.KeptLines.{all_kept}
-use Rattle.apei_cli.specs.LineLaws.{HaveLaws}
+use Rattle.apei_cli.proofs.LineLaws.{HaveLaws}
 
 pub have_laws : (tells : Type 0) → HaveLaws tells
 have_laws tells = record {

@@ -1,3 +1,4 @@
+pub mod LineLaws
 pub mod Terms
 pub mod DecimalLemmas
 pub mod CommandLemmas

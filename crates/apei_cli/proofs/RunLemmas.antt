@@ -13,7 +13,7 @@ use Rattle.apei_script.specs.declared.player.PlayStop.{PlayStop}
 use Rattle.apei_script.specs.declared.player.PlayStop.TheVariants.{FlashFault as RestartFailed, Memory as NoMemory}
 use Rattle.apei_script.specs.Players.{PlayerState}
 use Rattle.apei_script.specs.Words.{Reply, text_of_replies}
-use Rattle.apei_script.specs.Plays.{Stage, LinePlayed, HasHappened, FailsRestart, PartlyWritten, PlaysLine, PlaysUnwritten, Stops, Told, step_of, stage_in, played_as}
+use Rattle.apei_script.specs.Plays.{Stage, LinePlayed, HasHappened, FailsRestart, PartlyWritten, PlaysLine, PlaysUnwritten, Stops, Told, stage_in, played_as}
 use Rattle.erst_machine.specs.Shown.{changes_of}
 use Rattle.script_laws.specs.History.{Played, Follows, AreCounted, blocks_of, reply_of, text_of, heard_after}
 use Rattle.script_lines.specs.Ends.{EndsReading}
@@ -31,15 +31,16 @@ use Rattle.apei_cli.specs.declared.status.Status.TheVariants.{BadLine, SinkFault
 use Rattle.apei_notify.proofs.ToldLemmas.{told_none, told_then}
 use Rattle.apei_cli.proofs.EndLemmas.{has_status}
 use Rattle.apei_cli.proofs.ToldLemmas.{WantsOf, wants_first, wants_stay, heard_all}
+use Rattle.apei_script.specs.Bridged.{changes_in}
 
 -- one more line
-pub AreCounted-push : (some : List Played) (one : Played) → AreCounted some → changes_of one.left.machine ≡ step_of one.left → AreCounted (some ++ one ∷ [])
+pub AreCounted-push : (some : List Played) (one : Played) → AreCounted some → changes_of one.left.machine ≡ (changes_in one.left.machine) → AreCounted (some ++ one ∷ [])
 AreCounted-push [] one before is = (is, tt)
 AreCounted-push (played ∷ rest) one before is = (before.0, AreCounted-push rest one before.1 is)
 
-text_of-push : (some : List Played) (played : Played) → text_of (some ++ played ∷ []) ≡ text_of some ++ reply_of played
-text_of-push [] played = append-nil (reply_of played)
-text_of-push (first ∷ some) played = ap (λ (bs : List ℕ). reply_of first ++ bs) (text_of-push some played) ∙ sym (append_assoc (reply_of first) (text_of some) (reply_of played))
+text_of-push : (some : List Played) (played : Played) → text_of (some ++ played ∷ []) ≡ text_of some ++ (text_of_replies played.said)
+text_of-push [] played = append-nil (text_of_replies played.said)
+text_of-push (first ∷ some) played = ap (λ (bs : List ℕ). (text_of_replies first.said) ++ bs) (text_of-push some played) ∙ sym (append_assoc (text_of_replies first.said) (text_of some) (text_of_replies played.said))
 
 pub blocks_of-push : (some : List Played) (played : Played) → blocks_of (some ++ played ∷ []) ≡ blocks_of some ++ played.blocks
 blocks_of-push [] played = append-nil played.blocks
@@ -126,7 +127,7 @@ module _ {L : Type 0} (hearing : L → Hearing) (told_source told_sink tells : T
   -- one more line was read and played
   pub SoFar-played : (script rest rest_now written middle now : List ℕ) (first members members_now : List L) (old mid new : PlayerState) (a b : Reading) (line : ScriptLine)
       → SoFar hearing told_source told_sink tells script rest written middle first members old mid a → IsNextLine told_source a b rest rest_now → IsLineOf (λ (text : List ℕ). Means text line) (last_line b)
-      → PlaysLine hearing tells (stream_of told_sink middle now) (stage_in mid members) line (stage_in new members_now) → (tells → changes_of new.machine ≡ step_of new)
+      → PlaysLine hearing tells (stream_of told_sink middle now) (stage_in mid members) line (stage_in new members_now) → (tells → changes_of new.machine ≡ (changes_in new.machine))
       → SoFar hearing told_source told_sink tells script rest_now written now first members_now old new b
   SoFar-played script rest rest_now written middle now first members members_now old mid new a b line so_far next is plays counts = record {
     lines = so_far.lines ++ last_line b ∷ [];
@@ -205,7 +206,7 @@ module _ {L : Type 0} (hearing : L → Hearing) (told_source told_sink tells : T
   -- its reply was refused by the sink
   pub ends_unwritten : (script rest rest_now written middle now : List ℕ) (first members members_now : List L) (old mid new : PlayerState) (a b : Reading) (line : ScriptLine)
       → SoFar hearing told_source told_sink tells script rest written middle first members old mid a → IsNextLine told_source a b rest rest_now → IsLineOf (λ (text : List ℕ). Means text line) (last_line b)
-      → PlaysUnwritten hearing tells (stream_of told_sink middle now) (stage_in mid members) line (stage_in new members_now) → (tells → changes_of new.machine ≡ step_of new)
+      → PlaysUnwritten hearing tells (stream_of told_sink middle now) (stage_in mid members) line (stage_in new members_now) → (tells → changes_of new.machine ≡ (changes_in new.machine))
       → PlaysScript hearing tells (stream_of told_source script rest_now) (stream_of told_sink written now) (stage_in old first) (stage_in new members_now) SinkFault
   ends_unwritten script rest rest_now written middle now first members members_now old mid new a b line so_far next is plays counts = record {
     played = so_far.played ++ played_as plays.made plays.said plays.blocks plays.steps new ∷ [];

@@ -9,7 +9,7 @@ use Rattle.script_text.specs.ScriptGrammar.{Line}
 use Rattle.script_text.specs.ScriptText.{Means}
 use Rattle.apei_script.specs.Plays.{FailsRestart, BringsTable}
 use Rattle.apei_cli.specs.CommandWords.{belongs, name_of}
-use Rattle.apei_cli.specs.Commands.{command_of, drawn_of, line_for}
+use Rattle.apei_cli.specs.Commands.{command_of, line_for}
 use Rattle.apei_cli.specs.Generated.{begins}
 use Rattle.apei_cli.specs.Outcomes.{Streams, Start, Outcome}
 use Rattle.apei_cli.specs.Plan.{given}
@@ -18,6 +18,7 @@ use Rattle.apei_cli.specs.declared.job.Plan.{Plan}
 use Rattle.apei_cli.specs.declared.setting.Setting.{Setting}
 use Rattle.apei_cli.specs.declared.status.Status.{Status}
 use Rattle.apei_cli.specs.declared.status.Status.TheVariants.{Done, BadLine, TooLong, Memory}
+use Rattle.std.specs.Prelude.{◌^◌, ◌/◌}
 
 -- the command line
 abbrev pub job_rule : Rule
@@ -59,7 +60,7 @@ FailsInRestart tells last final text = (line : Line) × Means text line × Fails
 
 -- what is generated
 abbrev pub line_at : ℕ → Line
-line_at x = line_for (command_of (drawn_of x))
+line_at x = line_for (command_of (x / 2 ^ 33))
 
 abbrev pub is_refusal : List ℕ → Bool
 is_refusal reply = begins (codes "refused") reply

@@ -6,14 +6,6 @@ use Rattle.apei_cli.specs.declared.generate.command.Command.{Command}
 use Rattle.apei_cli.specs.declared.generate.command.Command.TheVariants.{Write, Clear, Read, Next}
 use Rattle.apei_cli.specs.Records.{record_of}
 
--- a linear congruential sequence modulo 2 ^ 64, with Knuth's multiplier of MMIX
-abbrev pub number_behind : ℕ → ℕ
-number_behind x = (x * 6364136223846793005 + 1442695040888963407) % 2 ^ 64
-
--- the high bits of a number, of which a command is made
-abbrev pub drawn_of : ℕ → ℕ
-drawn_of x = x / 2 ^ 33
-
 -- of eight commands five write, and one each clears, reads and names: one of 40 identifiers, and one of 16 sizes in bytes
 abbrev pub command_of : ℕ → Command
 command_of drawn =
@@ -35,7 +27,9 @@ line_for (Clear id) = clear id
 line_for (Read id) = read id
 line_for Next = next
 
--- the lines that a seed generates: one of each number behind it
+-- the lines that a seed generates: one of the high bits of each number behind it in a linear congruential sequence modulo 2 ^ 64, with Knuth's
+-- multiplier of MMIX
 abbrev pub generated_lines : ℕ → ℕ → List Line
 generated_lines seed zero = []
-generated_lines seed (suc n) = line_for (command_of (drawn_of (number_behind seed))) ∷ generated_lines (number_behind seed) n
+generated_lines seed (suc n) =
+    let next = (seed * 6364136223846793005 + 1442695040888963407) % 2 ^ 64 in line_for (command_of (next / 2 ^ 33)) ∷ generated_lines next n

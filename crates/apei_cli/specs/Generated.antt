@@ -3,12 +3,12 @@ use Rattle.std.specs.Prelude.{◌≡◌, ℕ, Bool, List, [], codes, length, tak
 use Rattle.std.specs.Str.{bytes_eq}
 use Rattle.script_text.specs.ScriptGrammar.{Line, text_of}
 use Rattle.apei_script.specs.Players.{PlayerState}
-use Rattle.apei_script.specs.Words.{reply_at}
-use Rattle.apei_script.specs.Plays.{step_of}
+use Rattle.apei_script.specs.Words.{reply_at, text_of_replies}
 use Rattle.apei_script.specs.Sessions.{CommandPlayed}
 use Rattle.script_laws.specs.History.{Played, Follows, AreCounted, AreOwnLines, blocks_of, reply_of}
 use Rattle.apei_cli.specs.declared.generate.tally.Tally.{Tally}
 use Rattle.apei_cli.specs.Commands.{generated_lines}
+use Rattle.apei_script.specs.Bridged.{changes_in}
 
 -- a text begins with a word
 abbrev pub begins : List ℕ → List ℕ → Bool
@@ -21,14 +21,14 @@ tally_of lines = record {
   clears = count_by (λ (played : Played). begins (codes "clear") (text_of played.line)) lines;
   reads = count_by (λ (played : Played). begins (codes "read") (text_of played.line)) lines;
   nexts = count_by (λ (played : Played). begins (codes "next") (text_of played.line)) lines;
-  refused = count_by (λ (played : Played). begins (codes "refused") (reply_of played)) lines;
+  refused = count_by (λ (played : Played). begins (codes "refused") (text_of_replies played.said)) lines;
 }
 
 -- one line was played, and whether its reply is a refusal
 pub record IsRefusedIf (refused : Bool) (tells : Type 0) (old : PlayerState) (line : Line) (new : PlayerState) : Type 0 where
   pub words : List ℕ
   pub played : CommandPlayed tells old line new words
-  pub refused_is : refused ≡ begins (codes "refused") (reply_at (step_of new) words)
+  pub refused_is : refused ≡ begins (codes "refused") (reply_at (changes_in new.machine) words)
 
 -- the lines that a seed generates were played, one after another
 pub record PlaysCommands (tells : Type 0) (old : PlayerState) (seed count : ℕ) (new : PlayerState) (tally : Tally) : Type 0 where

@@ -3,7 +3,6 @@ pub mod Decimals
 pub mod Plan
 pub mod Statuses
 pub mod Runs
-pub mod LineLaws
 pub mod Numbers
 pub mod Messages
 pub mod Sim

@@ -7,9 +7,6 @@ pub record Batch : Type 0 where
   pub seed : ℕ
   pub count : ℕ
 
-abbrev pub batch_of : ℕ → ℕ → Batch
-batch_of seed count = record { seed = seed; count = count }
-
 -- a plan but for the path of its image
 abbrev pub order_of : Plan → Plan
 order_of plan = record plan { image = None }

@@ -12,10 +12,6 @@ pub record Streams : Type 1 where
   pub unread : Type 0
   pub unwritten : Type 0
 
--- neither of them was touched
-abbrev pub AreUntouched : Streams → Type 0
-AreUntouched streams = streams.unread × streams.unwritten
-
 -- what a run begins with
 pub record Start (L : Type 0) : Type 0 where
   pub order : Plan

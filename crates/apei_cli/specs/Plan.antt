@@ -70,7 +70,3 @@ pub record IsPlanIn (rows : List Row) (plan : Plan) : Type 0 where
 pub record IsPlanOf (words : List (String Global)) (plan : Plan) : Type 0 where
   pub taken : takes the_command (map string_bytes words) ≡ true
   pub values : IsPlanIn (matches_of the_command (map string_bytes words)) plan
-
--- the words are no command line of the program
-abbrev pub AreBad : List (String Global) → Type 0
-AreBad words = (plan : Plan) → ¬ IsPlanOf words plan

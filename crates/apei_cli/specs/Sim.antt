@@ -1,5 +1,5 @@
 -- The simulated flash of a plan.
-use Rattle.std.specs.Prelude.{◌≡◌, ℕ, Bool, true, false, ◌*◌, ◌==◌, if◌then◌else◌, List, [], ◌∷◌, replicate, Option, Some, None, option_to_list}
+use Rattle.std.specs.Prelude.{ℕ, Bool, true, false, ◌==◌, if◌then◌else◌, List, [], ◌∷◌, Option, Some, None, option_to_list}
 use Rattle.flash_model.specs.Simulation.{Simulation, first_power}
 use Rattle.flash_model.specs.declared.cut.Cut.{Cut}
 use Rattle.flash_model.specs.declared.tear.Tear.{Tear}
@@ -42,11 +42,3 @@ new_flash plan sector image = record {
   unpowered = 0;
   restarts = 0;
 }
-
--- a new flash of the plan's geometry, with erased bytes
-abbrev pub IsErasedFlash : Plan → Simulation → Type 0
-IsErasedFlash plan flash = flash ≡ new_flash plan plan.sector (replicate (plan.sector * plan.per_slot * plan.slots) 0xFF)
-
--- a new flash without a byte
-abbrev pub IsEmptyFlash : Plan → Simulation → Type 0
-IsEmptyFlash plan flash = flash ≡ new_flash plan 256 []

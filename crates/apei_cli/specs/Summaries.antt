@@ -1,21 +1,17 @@
 -- The line that sums up what was played.
 use Rattle.std.specs.Prelude.{◌≡◌, ℕ, Bool, List, [], ◌∷◌, ◌++◌, codes, decimal, map, Result, Ok, Err}
+use Rattle.std.specs.Result.{result_unwrap_or}
 use Rattle.erst_client.specs.declared.errors.ClientError.{ClientError}
 use Rattle.script_lines.specs.Streams.{Stream}
 use Rattle.script_text.specs.ScriptGrammar.{count}
 use Rattle.apei_script.specs.Players.{PlayerState}
 use Rattle.apei_script.specs.Words.{said_at, words_of_count}
-use Rattle.apei_script.specs.Plays.{step_of}
 use Rattle.script_laws.specs.History.{Played, Follows, AreCounted, AreOwnLines, blocks_of}
 use Rattle.apei_cli.specs.declared.generate.tally.Tally.{Tally}
 use Rattle.apei_cli.specs.Commands.{generated_lines}
 use Rattle.apei_cli.specs.Generated.{tally_of}
 use Rattle.apei_cli.specs.Orders.{Batch}
-
--- the number of records that the words of a count's reply tell: none where it was refused
-pub data TellsLive : List ℕ → ℕ → Type 0 where
-  Counted : (n : ℕ) → TellsLive (words_of_count (Ok n)) n
-  Refused : (error : ClientError) → TellsLive (words_of_count (Err error)) 0
+use Rattle.apei_script.specs.Bridged.{changes_in}
 
 -- the line
 abbrev pub summary_of : ℕ → Tally → ℕ → ℕ → List ℕ
@@ -29,7 +25,7 @@ WritesText text written written_now (Ok done) = written_now ≡ written ++ text
 WritesText text written written_now (Err error) = (part rest : List ℕ) × (text ≡ part ++ rest) × (written_now ≡ written ++ part)
 
 -- The lines that a seed generates were played, one after another, and then one that counts the records, whatever the listeners have heard.
--- What was written sums them up: the lines of each kind and those that were refused, without the last one; the records by its reply; and
+-- What was written sums them up: the lines of each kind and those that were refused, without the last one; the records that it counted, or none where it was refused; and
 -- the flash step at which it ended
 pub record IsGenerated {E : Type 0} (tells : Type 0) (sink : Stream) (old : PlayerState) (batch : Batch) (new : PlayerState) (result : Result (Unit {0}) E) : Type 0 where
   pub played : List Played
@@ -41,8 +37,7 @@ pub record IsGenerated {E : Type 0} (tells : Type 0) (sink : Stream) (old : Play
   -- no line runs an action or gives a table, and no listener is told of a block
   pub own : AreOwnLines (played ++ last ∷ [])
   pub blocks : blocks_of (played ++ last ∷ []) ≡ []
-  pub words : List ℕ
-  pub said : last.said ≡ said_at (step_of new) (words ∷ [])
-  pub live : ℕ
-  pub told_live : TellsLive words live
-  pub text : sink.tells → WritesText (summary_of batch.count (tally_of played) live (step_of new)) sink.before sink.after result
+  pub answer : Result ℕ ClientError
+  pub said : last.said ≡ said_at (changes_in new.machine) (words_of_count answer ∷ [])
+  pub text : sink.tells
+      → WritesText (summary_of batch.count (tally_of played) (result_unwrap_or answer 0) (changes_in new.machine)) sink.before sink.after result

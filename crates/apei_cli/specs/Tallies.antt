@@ -14,9 +14,6 @@ abbrev pub counted_refusal : Bool → Tally → Tally
 counted_refusal true tally = record tally { refused = tally.refused + 1 }
 counted_refusal false tally = tally
 
-abbrev pub counted_with : Command → Bool → Tally → Tally
-counted_with command refused tally = counted_refusal refused (counted_kind command tally)
-
 -- no count is at its type's end
 pub record HasRoom (tally : Tally) : Type 0 where
   pub writes : tally.writes < 2 ^ 64 - 1

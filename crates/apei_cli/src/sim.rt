@@ -1,7 +1,7 @@
 // The simulated flash of a plan.
 ghost use Rattle.std.specs.Prelude.{◌≡◌, true, false, ◌*◌, [], IfOk, replicate, option_to_list};
 ghost use Rattle.flash_model.specs.Limits.{IsGeometry};
-ghost use Rattle.apei_cli.specs.Sim.{simulates, tear_numbered, cut_of, failing_of, IsErasedFlash, IsEmptyFlash};
+ghost use Rattle.apei_cli.specs.Sim.{simulates, tear_numbered, cut_of, failing_of, new_flash};
 
 use crate::{Job, Plan};
 use apei_bytes::OutOfMemory;
@@ -15,10 +15,11 @@ const NO_SECTOR: u32 = 256;
 /// memory. For another job, and where the geometry is outside its limits, it is empty.
 pub fn sim_flash(alloc: Global, plan: &Plan) -> Result<SimFlash, OutOfMemory>
     ensures erased { simulates plan.now.job ≡ true → IsGeometry plan.now.sector plan.now.per_slot plan.now.slots
-        → IfOk result (IsErasedFlash plan.now) }
+        → IfOk result (λ flash. flash ≡ new_flash plan.now plan.now.sector
+        (replicate (plan.now.sector * plan.now.per_slot * plan.now.slots) 0xFF)) }
     ensures empty { ¬ IsGeometry plan.now.sector plan.now.per_slot plan.now.slots
-        → IfOk result (IsEmptyFlash plan.now) }
-    ensures other { simulates plan.now.job ≡ false → IfOk result (IsEmptyFlash plan.now) }
+        → IfOk result (λ flash. flash ≡ new_flash plan.now 256 []) }
+    ensures other { simulates plan.now.job ≡ false → IfOk result (λ flash. flash ≡ new_flash plan.now 256 []) }
 {
     let failing = failing_changes(alloc, plan)?;
     let failing_reads = failing_reads(alloc, plan)?;

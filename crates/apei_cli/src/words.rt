@@ -1,9 +1,10 @@
 // The plan that a command line makes.
 ghost use Rattle.std.specs.Prelude.{◌≡◌, Err, IfOk};
+ghost use Rattle.apei_cli.specs.declared.job.Plan.{Plan};
 ghost use Rattle.clap.specs.Words.{found_of, rows_of};
 ghost use Rattle.clap_words.specs.Commands.{NoneFits};
 ghost use Rattle.clap_words.specs.declared.error.WordsError.TheVariants.{BadWords};
-ghost use Rattle.apei_cli.specs.Plan.{AreBad, IsPlanIn, IsPlanOf};
+ghost use Rattle.apei_cli.specs.Plan.{IsPlanIn, IsPlanOf};
 
 use crate::command::command;
 use crate::setting::Setting;
@@ -23,7 +24,7 @@ const LAST_TEAR: u64 = 3;
 /// order and each at most once. Whether the geometry is in its limits is not tried here.
 pub fn plan(alloc: Global, words: &[String]) -> Result<Plan, WordsError>
     ensures plan { IfOk result (IsPlanOf words.now) }
-    ensures bad_words { result ≡ Err BadWords → AreBad words.now }
+    ensures bad_words { result ≡ Err BadWords → (plan : Plan) → ¬ IsPlanOf words.now plan }
 {
     let command = command(alloc)?;
     let matches = matches_in(command, words)?;

@@ -1,6 +1,5 @@
 // A listener that only counts.
-ghost use Rattle.std.specs.Prelude.{◌≡◌, ◌&&◌, nat_lt};
-ghost use Rattle.apei_notify.specs.Masks.{has_bit};
+ghost use Rattle.std.specs.Prelude.{◌≡◌, ◌/◌, ◌%◌, ◌^◌, ◌==◌, ◌&&◌, nat_lt};
 
 use crate::listener::Listener;
 
@@ -22,7 +21,7 @@ impl Tally {
 
 impl Listener for Tally {
     ghost hearing = { λ tally. record {
-      wants = λ severity. nat_lt severity 4 && has_bit tally.mask severity;
+      wants = λ severity. nat_lt severity 4 && tally.mask / 2 ^ severity % 2 == 1;
       count = tally.heard;
       last = λ severity block. Unit {0};
     } };

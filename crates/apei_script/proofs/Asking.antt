@@ -14,24 +14,18 @@ use Rattle.script_text.specs.ScriptGrammar.{write, read, clear, count, next, dum
 use Rattle.apei_script.specs.Players.{asker_of}
 use Rattle.apei_script.specs.Replies.{IsMade}
 use Rattle.apei_script.specs.Words.{words_of_write, words_of_read, words_of_clear, words_of_count, words_of_next, words_of_dummy, words_of_action}
-use Rattle.apei_script.specs.Asked.{READ_BUFFER, WritesRecord, ReadsRecord, ClearsRecord, CountsRecords, FindsNext, WritesDummy, RunsAction, Commanded, Answers, ReadAsked}
+use Rattle.apei_script.specs.Asked.{READ_BUFFER, WritesRecord, ReadsRecord, ClearsRecord, CountsRecords, FindsNext, WritesDummy, RunsAction, Answers, ReadAsked, Asked}
 use Rattle.apei_script.proofs.Lengths.{read_within}
 
 module _ (tells : Type 0) (client : ClientState) (steps : ℕ) (old : MachineState) where
   -- the machine was asked by a command
   pub asked_to_write : (hex bytes : List ℕ) (result : Result (Unit {0}) ClientError) (budget left : ℕ) (new : MachineState) → decode_of hex ≡ Ok bytes → budget ≡ steps
-      → Writes (Allows tells) client bytes budget old result left new → Reaches (Allows tells) old new → Commanded tells (asker_of client steps) old (write hex) (words_of_write bytes result) new
-  asked_to_write hex bytes result budget left new decoded given asks reaches = record {
-    asked = WritesRecord hex bytes result left new decoded (subst (λ (n : ℕ). Writes (Allows tells) client bytes n old result left new) given asks);
-    reaches = reaches;
-  }
+      → Writes (Allows tells) client bytes budget old result left new → Reaches (Allows tells) old new → (Asked tells (asker_of client steps) old (write hex) (words_of_write bytes result) new × Reaches (Allows tells) old new)
+  asked_to_write hex bytes result budget left new decoded given asks reaches = (WritesRecord hex bytes result left new decoded (subst (λ (n : ℕ). Writes (Allows tells) client bytes n old result left new) given asks), reaches)
 
   pub asked_to_read : (id : ℕ) (out after : List ℕ) (result : Result ℕ ClientError) (budget left : ℕ) (new : MachineState) → length out ≡ READ_BUFFER → budget ≡ steps
-      → Reads (Allows tells) client id out budget old result after left new → Reaches (Allows tells) old new → Commanded tells (asker_of client steps) old (read id) (words_of_read after result) new
-  asked_to_read id out after result budget left new size given asks reaches = record {
-    asked = ReadsRecord id out after result left new size (subst (λ (n : ℕ). Reads (Allows tells) client id out n old result after left new) given asks);
-    reaches = reaches;
-  }
+      → Reads (Allows tells) client id out budget old result after left new → Reaches (Allows tells) old new → (Asked tells (asker_of client steps) old (read id) (words_of_read after result) new × Reaches (Allows tells) old new)
+  asked_to_read id out after result budget left new size given asks reaches = (ReadsRecord id out after result left new size (subst (λ (n : ℕ). Reads (Allows tells) client id out n old result after left new) given asks), reaches)
 
   -- and what a read answers
   pub read_asked : (id : ℕ) (out shown : List ℕ) (result : Result ℕ ClientError) (budget left : ℕ) (new : MachineState) → length out ≡ READ_BUFFER → length shown ≡ length out → budget ≡ steps
@@ -48,25 +42,16 @@ module _ (tells : Type 0) (client : ClientState) (steps : ℕ) (old : MachineSta
 
   pub asked_to_clear : (id : ℕ) (result : Result (Unit {0}) ClientError) (budget left : ℕ) (new : MachineState) → budget ≡ steps
       → Sequence (Allows tells) client.table.entries client.timings (clear_requests id) budget old result left new → Reaches (Allows tells) old new
-      → Commanded tells (asker_of client steps) old (clear id) (words_of_clear id result) new
-  asked_to_clear id result budget left new given asks reaches = record {
-    asked = ClearsRecord id result left new (subst (λ (n : ℕ). Sequence (Allows tells) client.table.entries client.timings (clear_requests id) n old result left new) given asks);
-    reaches = reaches;
-  }
+      → (Asked tells (asker_of client steps) old (clear id) (words_of_clear id result) new × Reaches (Allows tells) old new)
+  asked_to_clear id result budget left new given asks reaches = (ClearsRecord id result left new (subst (λ (n : ℕ). Sequence (Allows tells) client.table.entries client.timings (clear_requests id) n old result left new) given asks), reaches)
 
   pub asked_to_count : (result : Result ℕ ClientError) (budget left : ℕ) (new : MachineState) → budget ≡ steps
-      → Counts (Allows tells) client.table.entries budget old result left new → Reaches (Allows tells) old new → Commanded tells (asker_of client steps) old count (words_of_count result) new
-  asked_to_count result budget left new given asks reaches = record {
-    asked = CountsRecords result left new (subst (λ (n : ℕ). Counts (Allows tells) client.table.entries n old result left new) given asks);
-    reaches = reaches;
-  }
+      → Counts (Allows tells) client.table.entries budget old result left new → Reaches (Allows tells) old new → (Asked tells (asker_of client steps) old count (words_of_count result) new × Reaches (Allows tells) old new)
+  asked_to_count result budget left new given asks reaches = (CountsRecords result left new (subst (λ (n : ℕ). Counts (Allows tells) client.table.entries n old result left new) given asks), reaches)
 
   pub asked_for_next : (result : Result (Option ℕ) ClientError) (budget left : ℕ) (new : MachineState) → budget ≡ steps
-      → Names (Allows tells) client.table.entries budget old result left new → Reaches (Allows tells) old new → Commanded tells (asker_of client steps) old next (words_of_next result) new
-  asked_for_next result budget left new given asks reaches = record {
-    asked = FindsNext result left new (subst (λ (n : ℕ). Names (Allows tells) client.table.entries n old result left new) given asks);
-    reaches = reaches;
-  }
+      → Names (Allows tells) client.table.entries budget old result left new → Reaches (Allows tells) old new → (Asked tells (asker_of client steps) old next (words_of_next result) new × Reaches (Allows tells) old new)
+  asked_for_next result budget left new given asks reaches = (FindsNext result left new (subst (λ (n : ℕ). Names (Allows tells) client.table.entries n old result left new) given asks), reaches)
 
   -- and its reply made
   pub writes : (hex bytes : List ℕ) (result : Result (Unit {0}) ClientError) (budget left : ℕ) (new : MachineState) (reply : List ℕ) → decode_of hex ≡ Ok bytes → budget ≡ steps
@@ -115,10 +100,7 @@ module _ (tells : Type 0) (client : ClientState) (steps : ℕ) (old : MachineSta
       → IsMade reply (words_of_dummy result) → Answers tells (asker_of client steps) old dummy new reply
   goes_through result budget left new reply given asks reaches made = record {
     words = words_of_dummy result;
-    commanded = record {
-      asked = WritesDummy result left new (subst (λ (n : ℕ). Sequence (Allows tells) client.table.entries client.timings dummy_requests n old result left new) given asks);
-      reaches = reaches;
-    };
+    commanded = (WritesDummy result left new (subst (λ (n : ℕ). Sequence (Allows tells) client.table.entries client.timings dummy_requests n old result left new) given asks), reaches);
     made = made;
   }
 
@@ -126,10 +108,10 @@ module _ (tells : Type 0) (client : ClientState) (steps : ℕ) (old : MachineSta
       → Run (Allows tells) program value budget old answer left new → Reaches (Allows tells) old new → IsMade reply (words_of_action answer) → Answers tells (asker_of client steps) old (action code value) new reply
   runs code value program answer budget left new reply given found asks reaches made = record {
     words = words_of_action answer;
-    commanded = record {
-      asked = RunsAction code value answer left new
-          (subst (λ (n : ℕ). Run (Allows tells) (program_of code client.table.entries) value n old answer left new) given (subst (λ (p : Listed). Run (Allows tells) p value budget old answer left new) found asks));
-      reaches = reaches;
-    };
+    commanded = (
+      RunsAction code value answer left new
+          (subst (λ (n : ℕ). Run (Allows tells) (program_of code client.table.entries) value n old answer left new) given (subst (λ (p : Listed). Run (Allows tells) p value budget old answer left new) found asks)),
+      reaches,
+    );
     made = made;
   }

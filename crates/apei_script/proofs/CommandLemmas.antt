@@ -1,4 +1,5 @@
 -- Commands of the client in use, played as their lines are.
+use Rattle.std.specs.Prelude.{unwrap_or}
 use Rattle.std.proofs.Common.{◌≡◌, ◌∙◌, ℕ, List, [], ◌∷◌, Option, Some, None, Result, Ok, ap, sym, subst}
 use Rattle.hex.specs.Hex.{decode_of, encode_lower, IsBytes}
 use Rattle.hex.proofs.HexLemmas.{decode_of-encode_lower}
@@ -9,14 +10,16 @@ use Rattle.erst_bridge.specs.Bridges.{BridgeState}
 use Rattle.erst_machine.specs.MachineState.{MachineState, IsMachine}
 use Rattle.erst_machine.specs.Allowed.{Allows}
 use Rattle.script_text.specs.ScriptGrammar.{Line, IsValid, read}
-use Rattle.apei_script.specs.Players.{budget_by, asker_of}
+use Rattle.apei_script.specs.Players.{asker_of}
 use Rattle.apei_script.specs.Words.{said_at, words_of_read}
-use Rattle.apei_script.specs.Asked.{ReadsRecord, Commanded, ReadAsked}
+use Rattle.apei_script.specs.Asked.{ReadsRecord, ReadAsked, Asked}
 use Rattle.apei_script.specs.Plays.{ByClient, changes_in}
 use Rattle.apei_script.specs.Sessions.{CommandPlayed, ReadPlayed}
 use Rattle.apei_script.proofs.LawLemmas.{own_programs}
 use Rattle.apei_script.proofs.PlayedLemmas.{line_played}
 use Rattle.apei_script.proofs.SessionLines.{player, in_use}
+use Rattle.apei_space.specs.Accesses.{Reaches}
+use Rattle.erst_client.specs.Timings.{enough_steps}
 
 -- the bytes of a record's digits
 pub are_decoded : (bytes : List ℕ) → IsBytes bytes → decode_of (encode_lower bytes) ≡ Ok bytes
@@ -25,33 +28,33 @@ are_decoded bytes are = decode_of-encode_lower bytes are
 module _ (tells : Type 0) (old : MachineState) (own : ClientState) (steps : Option ℕ) (state : BridgeState) (machine : IsMachine old) where
   -- by the client of a table that a line gave
   pub played_by_other : (client : ClientState) (other new_other : Option ClientState) (line : Line) (words : List ℕ) (new : MachineState) → other ≡ Some client → new_other ≡ Some client → IsValid line
-      → Commanded tells (asker_of client (budget_by steps (in_use own other))) old line words new
+      → (Asked tells (asker_of client (unwrap_or steps (enough_steps (in_use own other).timings))) old line words new × Reaches (Allows tells) old new)
       → CommandPlayed tells (player old own other steps state) line (player new own new_other steps state) words
   played_by_other client other new_other line words new was is valid commanded =
       subst (λ (o : Option ClientState). CommandPlayed tells (player old own o steps state) line (player new own new_other steps state) words) (sym was)
       (subst (λ (o : Option ClientState). CommandPlayed tells (player old own (Some client) steps state) line (player new own o steps state) words) (sym is)
       (λ counts. line_played tells (own_programs tells) counts (player old own (Some client) steps state) line (said_at (changes_in new) (words ∷ [])) [] [] (player new own (Some client) steps state) machine valid
-      (ByClient line words new (subst (λ (o : Option ClientState). Commanded tells (asker_of client (budget_by steps (in_use own o))) old line words new) was commanded))))
+      (ByClient line words new (subst (λ (o : Option ClientState). (Asked tells (asker_of client (unwrap_or steps (enough_steps (in_use own o).timings))) old line words new × Reaches (Allows tells) old new)) was commanded))))
 
   -- by the client that was attached first
   pub played_by_own : (new_own : ClientState) (other new_other : Option ClientState) (line : Line) (words : List ℕ) (new : MachineState) → other ≡ None → new_other ≡ None → new_own ≡ own → IsValid line
-      → Commanded tells (asker_of own (budget_by steps (in_use own other))) old line words new
+      → (Asked tells (asker_of own (unwrap_or steps (enough_steps (in_use own other).timings))) old line words new × Reaches (Allows tells) old new)
       → CommandPlayed tells (player old own other steps state) line (player new new_own new_other steps state) words
   played_by_own new_own other new_other line words new was is same valid commanded =
       subst (λ (o : Option ClientState). CommandPlayed tells (player old own o steps state) line (player new new_own new_other steps state) words) (sym was)
       (subst (λ (o : Option ClientState). CommandPlayed tells (player old own None steps state) line (player new new_own o steps state) words) (sym is)
       (subst (λ (client : ClientState). CommandPlayed tells (player old own None steps state) line (player new client None steps state) words) (sym same)
       (λ counts. line_played tells (own_programs tells) counts (player old own None steps state) line (said_at (changes_in new) (words ∷ [])) [] [] (player new own None steps state) machine valid
-      (ByClient line words new (subst (λ (o : Option ClientState). Commanded tells (asker_of own (budget_by steps (in_use own o))) old line words new) was commanded)))))
+      (ByClient line words new (subst (λ (o : Option ClientState). (Asked tells (asker_of own (unwrap_or steps (enough_steps (in_use own o).timings))) old line words new × Reaches (Allows tells) old new)) was commanded)))))
 
   -- a read by the client in use
   pub read_played : (new_own : ClientState) (other new_other : Option ClientState) (id : ℕ) (result : Result ℕ ClientError) (new : MachineState) → new_other ≡ other → new_own ≡ own → IsValid (read id)
-      → ReadAsked tells (asker_of (in_use own other) (budget_by steps (in_use own other))) old id result new
+      → ReadAsked tells (asker_of (in_use own other) (unwrap_or steps (enough_steps (in_use own other).timings))) old id result new
       → ReadPlayed tells (player old own other steps state) id result (player new new_own new_other steps state)
   read_played new_own other new_other id result new is same valid asked =
       let words = words_of_read asked.shown result in
-      let commanded : Commanded tells (asker_of (in_use own other) (budget_by steps (in_use own other))) old (read id) words new =
-      record { asked = ReadsRecord id asked.out asked.shown result asked.left new asked.room asked.reads; reaches = asked.reaches } in
+      let commanded : (Asked tells (asker_of (in_use own other) (unwrap_or steps (enough_steps (in_use own other).timings))) old (read id) words new × Reaches (Allows tells) old new) =
+      (ReadsRecord id asked.out asked.shown result asked.left new asked.room asked.reads, asked.reaches) in
       record {
         asked = asked;
         played =

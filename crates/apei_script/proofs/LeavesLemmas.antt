@@ -245,7 +245,7 @@ pub line_leaves : (tells : Type 0) → tells → (range : ℕ) (counts : List �
 line_leaves tells told range counts old line said blocks steps new plays =
     elim plays as (λ one plays. one.steps ≡ [] → (names_command one.line ≡ true → LineLeaves range old.machine one.line one.left.machine) → IsOwnLine one.line → LineLeaves range old.machine one.line one.left.machine) [
       | Blank ↦ λ unmade maps own. stays range old.machine blank old.machine refl
-      | ByClient line words machine commanded ↦ λ unmade maps own. maps (asks_command tells (client_of old) (budget_of old) old.machine line words machine commanded.asked own)
+      | ByClient line words machine commanded ↦ λ unmade maps own. maps (asks_command tells (client_of old) (budget_of old) old.machine line words machine commanded.0 own)
       | GivenTable hex bytes words machine other decoded gives ↦ λ unmade maps own. absurd own
       | OwnTable ↦ λ unmade maps own. stays range old.machine own_table old.machine refl
       | GivenShadow left machine attaches attached reaches ↦ λ unmade maps own. stays range old.machine shadow_table machine (ap told_of attached.last_is)

@@ -54,7 +54,7 @@ module _ (tells : Type 0) where
   pub of_line : (counts : List ℕ) (old : PlayerState) (line : Line) (said : List Reply) (blocks : List (List ℕ)) (steps : List Step) (new : PlayerState) → Plays tells counts old (played_as line said blocks steps new) → HasTrail tells old.machine new.machine
   of_line counts old line said blocks steps new plays = elim plays as (λ one plays. HasTrail tells old.machine one.left.machine) [
     | Blank ↦ no_moves tells old.machine
-    | ByClient line words machine commanded ↦ reached_happens tells old.machine machine commanded.reaches
+    | ByClient line words machine commanded ↦ reached_happens tells old.machine machine commanded.1
     | GivenTable hex bytes words machine other decoded gives ↦ of_table old.machine old.other bytes words machine other gives
     | OwnTable ↦ no_moves tells old.machine
     | GivenShadow left machine attaches attached reaches ↦ reached_happens tells old.machine machine reaches

@@ -9,11 +9,12 @@ use Rattle.ghes_block.proofs.RegionLemmas.{finds_next, laid_is_list, starts}
 use Rattle.erst_machine.specs.MachineState.{MachineState, IsMachine}
 use Rattle.script_text.specs.ScriptGrammar.{bert}
 use Rattle.script_lines.specs.Streams.{stream_of}
-use Rattle.apei_script.specs.Words.{Reply, at_step, said_at, words_of_block, words_of_bert, reply_at, replies_at}
+use Rattle.apei_script.specs.Words.{Reply, at_step, said_at, words_of_block, reply_at, text_of_replies}
 use Rattle.apei_script.specs.Happened.{IsListed}
 use Rattle.apei_script.specs.Plays.{changes_in, LeftIn, InList}
 use Rattle.apei_script.specs.Sessions.{Lists, ListsUnwritten}
 use Rattle.apei_script.proofs.TurnLemmas.{at_last, replies-more}
+use Rattle.std.specs.Prelude.{codes, decimal}
 
 -- the first blocks were shown, and the others stand from a place on
 pub record ListedSoFar (told_sink : Type 0) (machine : MachineState) (at count : ℕ) (written written_now : List ℕ) : Type 0 where
@@ -24,7 +25,7 @@ pub record ListedSoFar (told_sink : Type 0) (machine : MachineState) (at count :
   pub place : at ≡ length (joined before)
   pub counted : count ≡ length before
   pub few : count ≤ at
-  pub text : told_sink → written_now ≡ written ++ replies_at (changes_in machine) (map words_of_block before)
+  pub text : told_sink → written_now ≡ written ++ (text_of_replies (said_at (changes_in machine) (map words_of_block before)))
 
 pub listed_none : (told_sink : Type 0) (machine : MachineState) (written : List ℕ) → IsMachine machine → ListedSoFar told_sink machine 0 0 written written
 listed_none told_sink machine written is = record {
@@ -105,7 +106,7 @@ listed_more told_sink machine at count next written written_now written_then so 
       text = λ t. text t
           ∙ ap (λ (xs : List ℕ). xs ++ reply_at step (words_of_block block)) (so.text t)
           ∙ replies-more step written (map words_of_block so.before) (words_of_block block)
-          ∙ ap (λ (said : List (List ℕ)). written ++ replies_at step said) (sym (map-append words_of_block so.before (block ∷ [])));
+          ∙ ap (λ (said : List (List ℕ)). written ++ (text_of_replies (said_at step said))) (sym (map-append words_of_block so.before (block ∷ [])));
     }
 
 pub next_within : (told_sink : Type 0) (machine : MachineState) (at count next : ℕ) (written written_now : List ℕ) → IsMachine machine → ListedSoFar told_sink machine at count written written_now
@@ -125,7 +126,7 @@ listed_cut tells told_sink machine at count next written written_now written_the
     let h = has_next told_sink machine at count next written written_now so is in
     let block = part region at (next - at) in
     let step = changes_in machine in
-    let bottom = words_of_bert (length (so.before ++ so.after)) ∷ [] in
+    let bottom = (codes "bert " ++ decimal (length (so.before ++ so.after))) ∷ [] in
     let words : map words_of_block (so.before ++ so.after) ++ bottom ≡ map words_of_block so.before ++ words_of_block block ∷ (map words_of_block h.rest ++ bottom) =
     ap (λ (xs : List (List ℕ)). xs ++ bottom) (map-append words_of_block so.before so.after ∙ ap (λ (xs : List (List ℕ)). map words_of_block so.before ++ map words_of_block xs) h.after_is)
     ∙ append_assoc (map words_of_block so.before) (words_of_block block ∷ map words_of_block h.rest) bottom in
@@ -158,36 +159,36 @@ all_listed told_sink machine at count written written_now so none =
 -- all blocks were shown, and then their number
 pub listed_all : (tells told_sink : Type 0) (machine : MachineState) (at count : ℕ) (written written_now written_then : List ℕ) → ListedSoFar told_sink machine at count written written_now
     → ((next : ℕ) → next_from machine.memory.region at ≡ Ok (Some next) → ⊥)
-    → (told_sink → written_then ≡ written_now ++ reply_at (changes_in machine) (words_of_bert count)) → Lists tells (stream_of told_sink written written_then) machine
+    → (told_sink → written_then ≡ written_now ++ reply_at (changes_in machine) (codes "bert " ++ decimal count)) → Lists tells (stream_of told_sink written written_then) machine
 listed_all tells told_sink machine at count written written_now written_then so none text =
     let all = all_listed told_sink machine at count written written_now so none in
     let step = changes_in machine in
     record {
-      words = map words_of_block so.before ++ words_of_bert (length so.before) ∷ [];
+      words = map words_of_block so.before ++ (codes "bert " ++ decimal (length so.before)) ∷ [];
       happened = IsListed so.before so.left (subst (λ (xs : List (List ℕ)). IsLaidOut xs so.left machine.memory.region) all so.laid);
       text = λ t. text t
-          ∙ ap (λ (n : ℕ). written_now ++ reply_at step (words_of_bert n)) so.counted
-          ∙ ap (λ (xs : List ℕ). xs ++ reply_at step (words_of_bert (length so.before))) (so.text t)
-          ∙ replies-more step written (map words_of_block so.before) (words_of_bert (length so.before));
+          ∙ ap (λ (n : ℕ). written_now ++ reply_at step (codes "bert " ++ decimal n)) so.counted
+          ∙ ap (λ (xs : List ℕ). xs ++ reply_at step (codes "bert " ++ decimal (length so.before))) (so.text t)
+          ∙ replies-more step written (map words_of_block so.before) (codes "bert " ++ decimal (length so.before));
     }
 
 -- and a part of that line
 pub listed_but : (tells told_sink : Type 0) (machine : MachineState) (at count : ℕ) (written written_now written_then : List ℕ) → ListedSoFar told_sink machine at count written written_now
     → ((next : ℕ) → next_from machine.memory.region at ≡ Ok (Some next) → ⊥)
-    → (told_sink → (n : ℕ) × (written_then ≡ written_now ++ take n (reply_at (changes_in machine) (words_of_bert count)))) → ListsUnwritten tells (stream_of told_sink written written_then) machine
+    → (told_sink → (n : ℕ) × (written_then ≡ written_now ++ take n (reply_at (changes_in machine) (codes "bert " ++ decimal count)))) → ListsUnwritten tells (stream_of told_sink written written_then) machine
 listed_but tells told_sink machine at count written written_now written_then so none text =
     let all = all_listed told_sink machine at count written written_now so none in
     let step = changes_in machine in
     record {
-      words = map words_of_block so.before ++ words_of_bert (length so.before) ∷ [];
+      words = map words_of_block so.before ++ (codes "bert " ++ decimal (length so.before)) ∷ [];
       before = said_at step (map words_of_block so.before);
-      last = at_step step (words_of_bert (length so.before));
-      left = at_last bert step (map words_of_block so.before) (words_of_bert (length so.before));
+      last = at_step step (codes "bert " ++ decimal (length so.before));
+      left = at_last bert step (map words_of_block so.before) (codes "bert " ++ decimal (length so.before));
       happened = IsListed so.before so.left (subst (λ (xs : List (List ℕ)). IsLaidOut xs so.left machine.memory.region) all so.laid);
       text = λ t. let part = text t in (
         part.0,
         part.1
-            ∙ ap (λ (n : ℕ). written_now ++ take part.0 (reply_at step (words_of_bert n))) so.counted
-            ∙ ap (λ (xs : List ℕ). xs ++ take part.0 (reply_at step (words_of_bert (length so.before)))) (so.text t),
+            ∙ ap (λ (n : ℕ). written_now ++ take part.0 (reply_at step (codes "bert " ++ decimal n))) so.counted
+            ∙ ap (λ (xs : List ℕ). xs ++ take part.0 (reply_at step (codes "bert " ++ decimal (length so.before)))) (so.text t),
       );
     }

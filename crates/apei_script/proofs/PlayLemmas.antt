@@ -12,10 +12,10 @@ use Rattle.apei_notify.specs.Telling.{Hearing, counts_of}
 use Rattle.script_lines.specs.Streams.{stream_of}
 use Rattle.apei_script.specs.declared.session.Session.{Session}
 use Rattle.apei_script.specs.Players.{PlayerState, budget_of, client_of}
-use Rattle.apei_script.specs.Words.{Reply, at_step, said_at, words_of_heard, reply_at, replies_at}
-use Rattle.apei_script.specs.Bridged.{TurnsShown}
+use Rattle.apei_script.specs.Words.{Reply, at_step, said_at, words_of_heard, reply_at, text_of_replies}
+use Rattle.apei_script.specs.Bridged.{TurnsShown, changes_in}
 use Rattle.apei_script.proofs.OneEvent.{NeedsNoBridge}
-use Rattle.apei_script.specs.Plays.{Plays, Blank, OnMachine, OnlyTells, LinePlayed, PlaysLine, PlaysUnwritten, Occurred, OccurredUnwritten, LeftIn, AtLast, InList, InTurns, InBridged, names_command, step_of, stage_in, played_as, one_reply}
+use Rattle.apei_script.specs.Plays.{Plays, Blank, OnMachine, OnlyTells, LinePlayed, PlaysLine, PlaysUnwritten, Occurred, OccurredUnwritten, LeftIn, AtLast, InList, InTurns, InBridged, names_command, stage_in, played_as, one_reply}
 use Rattle.apei_script.specs.Sessions.{state_of, SameClients, Lists, ListsUnwritten, LineAnswered, MakesReply}
 use Rattle.apei_script.proofs.LineLemmas.{line_happened}
 use Rattle.apei_script.proofs.LeavesLemmas.{line_leaves}
@@ -69,11 +69,11 @@ same_machine old new same = ap (λ (s : PlayerState). s.machine) same
 -- a line that was answered, with all that is said of it
 pub line_answered : (tells : Type 0) (old : PlayerState) (line : Line) (new : PlayerState) (made reply : List ℕ) (step : ℕ)
     → ((words counts : List ℕ) → Plays tells counts old (one_reply line words new) → LinePlayed tells counts old (one_reply line words new))
-    → MakesReply tells old line new made → step ≡ step_of new → reply ≡ reply_at step made → LineAnswered tells old line new reply
+    → MakesReply tells old line new made → step ≡ (changes_in new.machine) → reply ≡ reply_at step made → LineAnswered tells old line new reply
 line_answered tells old line new made reply step whole makes at text = record {
   words = makes.words;
   played = λ counts. whole makes.words counts (makes.plays counts);
-  text = text ∙ ap (λ (n : ℕ). reply_at n made) at ∙ ap (reply_at (step_of new)) makes.made.text;
+  text = text ∙ ap (λ (n : ℕ). reply_at n made) at ∙ ap (reply_at (changes_in new.machine)) makes.made.text;
 }
 
 left_quiet : (line made : Line) (said before : List Reply) (last : Reply) → LeftIn line made said before last → names_command line ≡ false → names_command made ≡ false
@@ -107,11 +107,11 @@ module _ {L : Type 0} (hearing : L → Hearing) (tells told_sink : Type 0) where
       → Occurred hearing tells (stream_of told_sink written written_now) (stage_in old.machine members) line (stage_in new.machine members_now)
       → PlaysLine hearing tells (stream_of told_sink written written_now) (stage_in old members) line (stage_in new members_now)
   occurred_played old new members members_now line written written_now none alone same h = record {
-    said = said_at (step_of new) h.words;
+    said = said_at (changes_in new.machine) h.words;
     blocks = h.blocks;
     steps = [];
-    played = quiet tells (counts_of hearing members) old line (said_at (step_of new) h.words) h.blocks new none
-        (subst (λ (s : PlayerState). Plays tells (counts_of hearing members) old (played_as line (said_at (step_of new) h.words) h.blocks [] s)) (sym same) (OnMachine line h.words h.blocks new.machine alone h.happened));
+    played = quiet tells (counts_of hearing members) old line (said_at (changes_in new.machine) h.words) h.blocks new none
+        (subst (λ (s : PlayerState). Plays tells (counts_of hearing members) old (played_as line (said_at (changes_in new.machine) h.words) h.blocks [] s)) (sym same) (OnMachine line h.words h.blocks new.machine alone h.happened));
     told = h.told;
     text = h.text;
   }
@@ -121,15 +121,15 @@ module _ {L : Type 0} (hearing : L → Hearing) (tells told_sink : Type 0) where
       → PlaysUnwritten hearing tells (stream_of told_sink written written_now) (stage_in old members) line (stage_in new members_now)
   occurred_unwritten old new members members_now line written written_now none alone same h = record {
     made = h.made;
-    said = said_at (step_of new) h.words;
+    said = said_at (changes_in new.machine) h.words;
     before = h.before;
     last = h.last;
     left = h.left;
     blocks = h.blocks;
     steps = [];
-    played = quiet tells (counts_of hearing members) old h.made (said_at (step_of new) h.words) h.blocks new (left_quiet line h.made (said_at (step_of new) h.words) h.before h.last h.left none)
-        (subst (λ (s : PlayerState). Plays tells (counts_of hearing members) old (played_as h.made (said_at (step_of new) h.words) h.blocks [] s)) (sym same)
-        (OnMachine h.made h.words h.blocks new.machine (left_alone old.bridge line h.made (said_at (step_of new) h.words) h.before h.last h.left alone) h.happened));
+    played = quiet tells (counts_of hearing members) old h.made (said_at (changes_in new.machine) h.words) h.blocks new (left_quiet line h.made (said_at (changes_in new.machine) h.words) h.before h.last h.left none)
+        (subst (λ (s : PlayerState). Plays tells (counts_of hearing members) old (played_as h.made (said_at (changes_in new.machine) h.words) h.blocks [] s)) (sym same)
+        (OnMachine h.made h.words h.blocks new.machine (left_alone old.bridge line h.made (said_at (changes_in new.machine) h.words) h.before h.last h.left alone) h.happened));
     told = h.told;
     text = h.text;
   }
@@ -138,10 +138,10 @@ module _ {L : Type 0} (hearing : L → Hearing) (tells told_sink : Type 0) where
       → PlaysLine hearing tells (stream_of told_sink written written_now) (stage_in old members) bert (stage_in new members)
   listed_played old new members written written_now same h =
       subst (λ (s : PlayerState). PlaysLine hearing tells (stream_of told_sink written written_now) (stage_in old members) bert (stage_in s members)) (sym same) (record {
-        said = said_at (step_of old) h.words;
+        said = said_at (changes_in old.machine) h.words;
         blocks = [];
         steps = [];
-        played = quiet tells (counts_of hearing members) old bert (said_at (step_of old) h.words) [] old refl (OnMachine bert h.words [] old.machine tt h.happened);
+        played = quiet tells (counts_of hearing members) old bert (said_at (changes_in old.machine) h.words) [] old refl (OnMachine bert h.words [] old.machine tt h.happened);
         told = told_none hearing members;
         text = h.text;
       })
@@ -151,52 +151,52 @@ module _ {L : Type 0} (hearing : L → Hearing) (tells told_sink : Type 0) where
   listed_unwritten old new members written written_now same h =
       subst (λ (s : PlayerState). PlaysUnwritten hearing tells (stream_of told_sink written written_now) (stage_in old members) bert (stage_in s members)) (sym same) (record {
         made = bert;
-        said = said_at (step_of old) h.words;
+        said = said_at (changes_in old.machine) h.words;
         before = h.before;
         last = h.last;
         left = h.left;
         blocks = [];
         steps = [];
-        played = quiet tells (counts_of hearing members) old bert (said_at (step_of old) h.words) [] old refl (OnMachine bert h.words [] old.machine tt h.happened);
+        played = quiet tells (counts_of hearing members) old bert (said_at (changes_in old.machine) h.words) [] old refl (OnMachine bert h.words [] old.machine tt h.happened);
         told = told_none hearing members;
         text = h.text;
       })
 
   -- a line of one reply that changes no listener
-  one_text : (step : ℕ) (words written : List ℕ) → written ++ reply_at step words ≡ written ++ replies_at step (words ∷ [])
+  one_text : (step : ℕ) (words written : List ℕ) → written ++ reply_at step words ≡ written ++ (text_of_replies (said_at step (words ∷ [])))
   one_text step words written = ap (λ (xs : List ℕ). written ++ xs) (sym (append-nil (reply_at step words)))
 
   pub one_played : (old new : PlayerState) (members : List L) (line : Line) (words written written_now : List ℕ) → LinePlayed tells (counts_of hearing members) old (one_reply line words new)
-      → (told_sink → written_now ≡ written ++ reply_at (step_of new) words)
+      → (told_sink → written_now ≡ written ++ reply_at (changes_in new.machine) words)
       → PlaysLine hearing tells (stream_of told_sink written written_now) (stage_in old members) line (stage_in new members)
   one_played old new members line words written written_now played text = record {
-    said = said_at (step_of new) (words ∷ []);
+    said = said_at (changes_in new.machine) (words ∷ []);
     blocks = [];
     steps = [];
     played = played;
     told = told_none hearing members;
-    text = λ t. text t ∙ one_text (step_of new) words written;
+    text = λ t. text t ∙ one_text (changes_in new.machine) words written;
   }
 
   pub one_unwritten : (old new : PlayerState) (members : List L) (line : Line) (words written written_now : List ℕ) → LinePlayed tells (counts_of hearing members) old (one_reply line words new)
-      → (told_sink → (n : ℕ) × (written_now ≡ written ++ take n (reply_at (step_of new) words)))
+      → (told_sink → (n : ℕ) × (written_now ≡ written ++ take n (reply_at (changes_in new.machine) words)))
       → PlaysUnwritten hearing tells (stream_of told_sink written written_now) (stage_in old members) line (stage_in new members)
   one_unwritten old new members line words written written_now played text = record {
     made = line;
-    said = said_at (step_of new) (words ∷ []);
+    said = said_at (changes_in new.machine) (words ∷ []);
     before = [];
-    last = at_step (step_of new) words;
-    left = AtLast line [] (at_step (step_of new) words);
+    last = at_step (changes_in new.machine) words;
+    left = AtLast line [] (at_step (changes_in new.machine) words);
     blocks = [];
     steps = [];
     played = played;
     told = told_none hearing members;
-    text = λ t. let some = text t in (some.0, some.1 ∙ ap (λ (xs : List ℕ). xs ++ take some.0 (reply_at (step_of new) words)) (sym (append-nil written)));
+    text = λ t. let some = text t in (some.0, some.1 ∙ ap (λ (xs : List ℕ). xs ++ take some.0 (reply_at (changes_in new.machine) words)) (sym (append-nil written)));
   }
 
   -- where the listeners are as they were
   pub answer_played : (old new : PlayerState) (members members_now : List L) (line : Line) (words written written_now : List ℕ) → members_now ≡ members
-      → LinePlayed tells (counts_of hearing members) old (one_reply line words new) → (told_sink → written_now ≡ written ++ reply_at (step_of new) words)
+      → LinePlayed tells (counts_of hearing members) old (one_reply line words new) → (told_sink → written_now ≡ written ++ reply_at (changes_in new.machine) words)
       → PlaysLine hearing tells (stream_of told_sink written written_now) (stage_in old members) line (stage_in new members_now)
   answer_played old new members members_now line words written written_now same played text =
       subst (λ (now : List L). PlaysLine hearing tells (stream_of told_sink written written_now) (stage_in old members) line (stage_in new now)) (sym same)
@@ -204,26 +204,26 @@ module _ {L : Type 0} (hearing : L → Hearing) (tells told_sink : Type 0) where
 
   pub answer_unwritten : (old new : PlayerState) (members members_now : List L) (line : Line) (words written written_now : List ℕ) → members_now ≡ members
       → LinePlayed tells (counts_of hearing members) old (one_reply line words new)
-      → (told_sink → (n : ℕ) × (written_now ≡ written ++ take n (reply_at (step_of new) words)))
+      → (told_sink → (n : ℕ) × (written_now ≡ written ++ take n (reply_at (changes_in new.machine) words)))
       → PlaysUnwritten hearing tells (stream_of told_sink written written_now) (stage_in old members) line (stage_in new members_now)
   answer_unwritten old new members members_now line words written written_now same played text =
       subst (λ (now : List L). PlaysUnwritten hearing tells (stream_of told_sink written written_now) (stage_in old members) line (stage_in new now)) (sym same)
       (one_unwritten old new members line words written written_now played text)
 
   heard_line : (old new : PlayerState) (members : List L) → new ≡ old → LinePlayed tells (counts_of hearing members) old (one_reply heard (words_of_heard (counts_of hearing members)) new)
-  heard_line old new members same = quiet tells (counts_of hearing members) old heard (said_at (step_of new) (words_of_heard (counts_of hearing members) ∷ [])) [] new refl
+  heard_line old new members same = quiet tells (counts_of hearing members) old heard (said_at (changes_in new.machine) (words_of_heard (counts_of hearing members) ∷ [])) [] new refl
       (subst (λ (s : PlayerState). Plays tells (counts_of hearing members) old (one_reply heard (words_of_heard (counts_of hearing members)) s)) (sym same) OnlyTells)
 
   pub heard_played : (old new : PlayerState) (members : List L) (written written_now : List ℕ) → new ≡ old
-      → (told_sink → written_now ≡ written ++ reply_at (step_of old) (words_of_heard (counts_of hearing members)))
+      → (told_sink → written_now ≡ written ++ reply_at (changes_in old.machine) (words_of_heard (counts_of hearing members)))
       → PlaysLine hearing tells (stream_of told_sink written written_now) (stage_in old members) heard (stage_in new members)
   heard_played old new members written written_now same text =
       one_played old new members heard (words_of_heard (counts_of hearing members)) written written_now (heard_line old new members same)
-      (λ t. text t ∙ ap (λ (s : PlayerState). written ++ reply_at (step_of s) (words_of_heard (counts_of hearing members))) (sym same))
+      (λ t. text t ∙ ap (λ (s : PlayerState). written ++ reply_at (changes_in s.machine) (words_of_heard (counts_of hearing members))) (sym same))
 
   pub heard_unwritten : (old new : PlayerState) (members : List L) (written written_now : List ℕ) → new ≡ old
-      → (told_sink → (n : ℕ) × (written_now ≡ written ++ take n (reply_at (step_of old) (words_of_heard (counts_of hearing members)))))
+      → (told_sink → (n : ℕ) × (written_now ≡ written ++ take n (reply_at (changes_in old.machine) (words_of_heard (counts_of hearing members)))))
       → PlaysUnwritten hearing tells (stream_of told_sink written written_now) (stage_in old members) heard (stage_in new members)
   heard_unwritten old new members written written_now same text =
       one_unwritten old new members heard (words_of_heard (counts_of hearing members)) written written_now (heard_line old new members same)
-      (λ t. let some = text t in (some.0, some.1 ∙ ap (λ (s : PlayerState). written ++ take some.0 (reply_at (step_of s) (words_of_heard (counts_of hearing members)))) (sym same)))
+      (λ t. let some = text t in (some.0, some.1 ∙ ap (λ (s : PlayerState). written ++ take some.0 (reply_at (changes_in s.machine) (words_of_heard (counts_of hearing members)))) (sym same)))

@@ -12,11 +12,11 @@ use Rattle.erst_bridge.specs.Turns.{Step}
 use Rattle.script_text.specs.ScriptGrammar.{Line, IsValid}
 use Rattle.base_model.specs.Faults.{Rose}
 use Rattle.apei_script.specs.Players.{PlayerState, client_of, budget_of, UsesOwn, UsesShadow, UsesEither, asker_of}
-use Rattle.apei_script.specs.Words.{Reply, said_at, words_in}
+use Rattle.apei_script.specs.Words.{Reply, said_at}
 use Rattle.apei_script.specs.Asked.{Asked}
 use Rattle.apei_script.specs.Happened.{Happened, Once, Turn, IsListed}
-use Rattle.apei_script.specs.Bridged.{ByBridge, Enters, StaysAs, BridgesTurns}
-use Rattle.apei_script.specs.Plays.{Plays, Blank, ByClient, GivenTable, OwnTable, GivenShadow, OnMachine, ByTheBridge, OnlyTells, Reset, Power, names_command, SaysHardware, LinePlayed, step_of, played_as}
+use Rattle.apei_script.specs.Bridged.{ByBridge, Enters, StaysAs, BridgesTurns, changes_in}
+use Rattle.apei_script.specs.Plays.{Plays, Blank, ByClient, GivenTable, OwnTable, GivenShadow, OnMachine, ByTheBridge, OnlyTells, Reset, Power, names_command, SaysHardware, LinePlayed, played_as}
 use Rattle.apei_script.proofs.OneEvent.{once}
 use Rattle.apei_script.proofs.LineLemmas.{line_happened}
 use Rattle.apei_script.proofs.OwnClientLemmas.{no_command, asked_by_map, asked_cause}
@@ -24,6 +24,7 @@ use Rattle.apei_script.proofs.EnoughSteps.{SaysNeither, asked_through}
 use Rattle.apei_script.proofs.ShadowClientLemmas.{shadow_by_map, shadow_cause, shadow_through}
 use Rattle.apei_script.proofs.LeavesLemmas.{LineLeaves, mapped_leaves, shadow_mapped_leaves, line_leaves}
 use Rattle.apei_script.proofs.BridgeLemmas.{line_turned}
+use Rattle.std.specs.Prelude.{map}
 
 -- the first of some replies
 abbrev first_of : List (List ℕ) → List ℕ
@@ -33,7 +34,7 @@ first_of (words ∷ rest) = words
 -- a command on records was asked of the client in use, and has one reply
 record AsksClient (tells : Type 0) (old : PlayerState) (line : Line) (said : List Reply) (new : PlayerState) : Type 0 where
   words : List ℕ
-  said_is : said ≡ said_at (step_of new) (words ∷ [])
+  said_is : said ≡ said_at (changes_in new.machine) (words ∷ [])
   asked : Asked tells (asker_of (client_of old) (budget_of old)) old.machine line words new.machine
 
 module _ (tells : Type 0) where
@@ -56,7 +57,7 @@ module _ (tells : Type 0) where
       AsksClient tells old line said new
   asks counts old line said blocks steps new plays = elim plays as (λ one plays. names_command one.line ≡ true → AsksClient tells old one.line one.said one.left) [
     | Blank ↦ λ names. no_command names
-    | ByClient line words machine commanded ↦ λ names. record { words = words; said_is = refl; asked = commanded.asked }
+    | ByClient line words machine commanded ↦ λ names. record { words = words; said_is = refl; asked = commanded.0 }
     | GivenTable hex bytes words machine other decoded gives ↦ λ names. no_command names
     | OwnTable ↦ λ names. no_command names
     | GivenShadow left machine attaches attached reaches ↦ λ names. no_command names
@@ -79,9 +80,9 @@ module _ (tells : Type 0) where
     has_cause : UsesEither old → (asks : AsksClient tells old line said new) → names_command line ≡ true → SaysHardware said
         → Rose old.machine.device.store.flash.faults new.machine.device.store.flash.faults
     has_cause (inl uses) asks names says =
-        asked_cause tells own (budget_of old) old.machine line asks.words new.machine (by_own old line said new uses asks) names (ap first_of (ap words_in (sym asks.said_is) ∙ says))
+        asked_cause tells own (budget_of old) old.machine line asks.words new.machine (by_own old line said new uses asks) names (ap first_of (ap (λ said. map (λ (reply : Reply). reply.words) said) (sym asks.said_is) ∙ says))
     has_cause (inr uses) asks names says =
-        shadow_cause tells own (budget_of old) old.machine machine line asks.words new.machine (by_its_shadow old line said new uses asks) names (ap first_of (ap words_in (sym asks.said_is) ∙ says))
+        shadow_cause tells own (budget_of old) old.machine machine line asks.words new.machine (by_its_shadow old line said new uses asks) names (ap first_of (ap (λ said. map (λ (reply : Reply). reply.words) said) (sym asks.said_is) ∙ says))
 
     says_neither : UsesEither old → (asks : AsksClient tells old line said new) → enough_steps (client_of old).timings ≤ budget_of old → IsValid line → names_command line ≡ true → SaysNeither asks.words
     says_neither (inl uses) asks many valid names =
@@ -118,7 +119,7 @@ module _ (tells : Type 0) where
         enough = λ uses names many.
             let a = asks_own names in
             let neither = says_neither own old line said new machine uses a many valid names in
-            (λ why says. neither.not_stopped why (ap first_of (ap words_in (sym a.said_is) ∙ says)), λ waited says. neither.in_time waited (ap first_of (ap words_in (sym a.said_is) ∙ says)));
+            (λ why says. neither.not_stopped why (ap first_of (ap (λ said. map (λ (reply : Reply). reply.words) said) (sym a.said_is) ∙ says)), λ waited says. neither.in_time waited (ap first_of (ap (λ said. map (λ (reply : Reply). reply.words) said) (sym a.said_is) ∙ says)));
         leaves = λ told uses own_line none.
             line_leaves tells told (client_of old).range counts old line said blocks steps new plays none
             (λ names. command_leaves own old line said new machine told (uses names) (asks_own names) valid names) own_line;

@@ -1,5 +1,5 @@
 -- Lines of one reply, as a session carries them out.
-use Rattle.std.specs.Prelude.{not, if◌then◌else◌, codes}
+use Rattle.std.specs.Prelude.{not, if◌then◌else◌, codes, unwrap_or}
 use Rattle.std.proofs.Common.{◌≡◌, ℕ, ◌≤◌, ◌↔◌, ◌∙◌, ap, Bool, true, false, IsTrue, List, [], ◌∷◌, ◌++◌, decimal, length, take, Option, Some, None, Result, Ok, Err, refl, sym, subst}
 use Rattle.hex.specs.Hex.{decode_of}
 use Rattle.base_model.specs.Faults.{Rose}
@@ -19,7 +19,7 @@ use Rattle.script_text.specs.ScriptGrammar.{Line, table, own_table, shadow_table
 use Rattle.erst_shadow.specs.ShadowTables.{shadow_count}
 use Rattle.apei_script.specs.declared.player.PlayStop.TheVariants.{FlashFault}
 use Rattle.apei_script.specs.Replies.{IsMade}
-use Rattle.apei_script.specs.Players.{PlayerState, budget_by, asker_of}
+use Rattle.apei_script.specs.Players.{PlayerState, asker_of}
 use Rattle.apei_script.specs.Words.{refused, words_of_table, words_of_submission, words_of_laid}
 use Rattle.apei_script.specs.Asked.{Answers}
 use Rattle.apei_script.specs.Happened.{Happened, Once}
@@ -29,6 +29,7 @@ use Rattle.apei_script.specs.Plays.{ByTheBridge, ByClient, GivenTable, OwnTable,
 use Rattle.apei_script.specs.Sessions.{MakesReply}
 use Rattle.apei_script.proofs.OneEvent.{NeedsNoBridge}
 use Rattle.apei_script.proofs.ShadowGiving.{IsShadowGiven}
+use Rattle.erst_client.specs.Timings.{enough_steps}
 
 -- what a player is made of
 abbrev pub player : MachineState → ClientState → Option ClientState → Option ℕ → BridgeState → PlayerState
@@ -55,14 +56,14 @@ module _ (tells : Type 0) (old : MachineState) (own : ClientState) (steps : Opti
   }
 
   pub by_other : (client : ClientState) (other new_other : Option ClientState) (line : Line) (new : MachineState) (reply : List ℕ) → other ≡ Some client → new_other ≡ Some client
-      → Answers tells (asker_of client (budget_by steps client)) old line new reply → MakesReply tells (player old own other steps state) line (player new own new_other steps state) reply
+      → Answers tells (asker_of client (unwrap_or steps (enough_steps client.timings))) old line new reply → MakesReply tells (player old own other steps state) line (player new own new_other steps state) reply
   by_other client other new_other line new reply was is answers =
       subst (λ (o : Option ClientState). MakesReply tells (player old own o steps state) line (player new own new_other steps state) reply) (sym was)
       (subst (λ (o : Option ClientState). MakesReply tells (player old own (Some client) steps state) line (player new own o steps state) reply) (sym is)
       (record { words = answers.words; plays = λ counts. ByClient line answers.words new answers.commanded; made = answers.made }))
 
   pub by_own : (new_own : ClientState) (other new_other : Option ClientState) (line : Line) (new : MachineState) (reply : List ℕ) → other ≡ None → new_other ≡ None → new_own ≡ own
-      → Answers tells (asker_of own (budget_by steps own)) old line new reply → MakesReply tells (player old own other steps state) line (player new new_own new_other steps state) reply
+      → Answers tells (asker_of own (unwrap_or steps (enough_steps own.timings))) old line new reply → MakesReply tells (player old own other steps state) line (player new new_own new_other steps state) reply
   by_own new_own other new_other line new reply was is same answers =
       subst (λ (o : Option ClientState). MakesReply tells (player old own o steps state) line (player new new_own new_other steps state) reply) (sym was)
       (subst (λ (o : Option ClientState). MakesReply tells (player old own None steps state) line (player new new_own o steps state) reply) (sym is)

@@ -40,15 +40,10 @@ pub data Asked (tells : Type 0) (asker : Asker) (old : MachineState) : Line → 
       → Run (Allows tells) (program_of code asker.client.table.entries) value asker.steps old answer left new
       → Asked tells asker old (action code value) (words_of_action answer) new
 
--- all that it does to the machine is accesses, one after another
-pub record Commanded (tells : Type 0) (asker : Asker) (old : MachineState) (line : Line) (words : List ℕ) (new : MachineState) : Type 0 where
-  pub asked : Asked tells asker old line words new
-  pub reaches : Reaches (Allows tells) old new
-
--- a line was carried out and its reply made, but for the step behind it
+-- a line was carried out, by accesses alone, one after another, and its reply made, but for the step behind it
 pub record Answers (tells : Type 0) (asker : Asker) (old : MachineState) (line : Line) (new : MachineState) (reply : List ℕ) : Type 0 where
   pub words : List ℕ
-  pub commanded : Commanded tells asker old line words new
+  pub commanded : Asked tells asker old line words new × Reaches (Allows tells) old new
   pub made : IsMade reply words
 
 -- A read was asked for, and this is what is answered. `shown` is what the buffer holds then: of its bytes the first are the record's, as

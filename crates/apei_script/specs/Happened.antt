@@ -1,5 +1,5 @@
 -- What a line asks of the machine itself: its handover of error status blocks, its boot error region, and its memory.
-use Rattle.std.specs.Prelude.{◌≡◌, ℕ, List, [], ◌∷◌, ◌++◌, length, map, Ok}
+use Rattle.std.specs.Prelude.{◌≡◌, ℕ, List, [], ◌∷◌, ◌++◌, length, map, Ok, codes, decimal}
 use Rattle.hex.specs.Hex.{decode_of}
 use Rattle.apei_space.specs.Calls.{ReadBytes}
 use Rattle.ghes_block.specs.Region.{IsLaidOut}
@@ -9,7 +9,7 @@ use Rattle.erst_machine.specs.MachineState.{MachineState}
 use Rattle.erst_machine.specs.Events.{Turns, Event as MachineEvent, Accessed, Submitted, Laid, Happens}
 use Rattle.script_text.specs.Turns.{side_of}
 use Rattle.script_text.specs.ScriptGrammar.{Line, error, turns, peek, fatal, bert}
-use Rattle.apei_script.specs.Words.{words_of_submission, words_of_turns, words_of_block, words_of_peek, words_of_laid, words_of_bert}
+use Rattle.apei_script.specs.Words.{words_of_submission, words_of_turns, words_of_block, words_of_peek, words_of_laid}
 
 -- turns one after another: their events, the blocks that were taken, and the machine afterwards
 pub data Turned (old : MachineState) : List ℕ → List Event → List (List ℕ) → MachineState → Type 0 where
@@ -33,4 +33,4 @@ pub data Happened (tells : Type 0) (old : MachineState) : Line → List (List �
   Turn : (letters : List ℕ) (events : List Event) (blocks : List (List ℕ)) (new : MachineState) → Turned old letters events blocks new
       → Happened tells old (turns letters) (map words_of_block blocks ++ words_of_turns events ∷ []) blocks new
   IsListed : (blocks : List (List ℕ)) (left : ℕ) → IsLaidOut blocks left old.memory.region
-      → Happened tells old bert (map words_of_block blocks ++ words_of_bert (length blocks) ∷ []) [] old
+      → Happened tells old bert (map words_of_block blocks ++ (codes "bert " ++ decimal (length blocks)) ∷ []) [] old

@@ -1,5 +1,5 @@
 -- The playing of one line. `tells` says whether the flash tells its content.
-use Rattle.std.specs.Prelude.{◌≡◌, ◌≢◌, ◌⊎◌, ℕ, ◌+◌, ◌≤◌, Bool, true, false, List, [], ◌∷◌, ◌++◌, codes, decimal, length, take, Option, Some, None, Ok, Err}
+use Rattle.std.specs.Prelude.{◌≡◌, ◌≢◌, ◌⊎◌, ℕ, ◌+◌, ◌≤◌, Bool, true, false, List, [], ◌∷◌, ◌++◌, codes, decimal, length, take, Option, Some, None, Ok, Err, map}
 use Rattle.hex.specs.Hex.{decode_of}
 use Rattle.base_model.specs.Faults.{Rose}
 use Rattle.base_model.specs.Flash.{Leaves}
@@ -31,8 +31,7 @@ use Rattle.apei_script.specs.declared.player.PlayStop.TheVariants.{SinkFault, Fl
 use Rattle.erst_shadow.specs.ShadowTables.{shadow_count, shadow_erst}
 use Rattle.erst_shadow.specs.ShadowCommands.{pieces_in, shadow_client, AttachesShadow}
 use Rattle.apei_script.specs.Players.{PlayerState, client_of, budget_of, asker_of, UsesOwn, UsesShadow, UsesEither}
-use Rattle.apei_script.specs.Words.{Reply, at_step, said_at, words_in, reply_at, text_of_replies, replies_at, refused, words_of_table, words_of_turns, words_of_heard}
-use Rattle.apei_script.specs.Asked.{Commanded}
+use Rattle.apei_script.specs.Words.{Reply, at_step, said_at, reply_at, text_of_replies, refused, words_of_table, words_of_turns, words_of_heard}
 use Rattle.apei_script.specs.Tables.{ATTACH_STEPS, GivesTable}
 use Rattle.apei_script.specs.Mapped.{Mapped, after_line}
 use Rattle.apei_script.specs.ShadowMapped.{ShadowMapped}
@@ -40,9 +39,7 @@ use Rattle.apei_script.specs.Happened.{Happened}
 use Rattle.apei_script.specs.Changes.{changes_along}
 pub use Rattle.apei_script.specs.Bridged.{changes_in}
 use Rattle.apei_script.specs.Bridged.{words_of_steps, ByBridge, TurnsShown}
-
-abbrev pub step_of : PlayerState → ℕ
-step_of state = changes_in state.machine
+use Rattle.apei_script.specs.Asked.{Asked}
 
 -- a line that was played: its replies, the blocks of which the listeners were told, the turns of the bridge and of the firmware beside it, and
 -- the player afterwards
@@ -58,14 +55,16 @@ played_as line said blocks steps left = record { line = line; said = said; block
 
 -- one that has one reply, of which no listener is told and in which the bridge makes no turn
 abbrev pub one_reply : Line → List ℕ → PlayerState → Played
-one_reply line words left = played_as line (said_at (step_of left) (words ∷ [])) [] [] left
+one_reply line words left = played_as line (said_at (changes_in left.machine) (words ∷ [])) [] [] left
 
--- The playing of a line by a player. `counts` says how often each listener has heard of an error before it. Turns are made without the bridge
--- where it is off. Attaching to the machine's second table never fails: beside bytes of the scratch memory all that it leaves is the timings in
--- VALUE. At a restart the number of records is told, the client that was attached first is in use again, and the bridge is off
+-- The playing of a line by a player. `counts` says how often each listener has heard of an error before it. All that a client does to the machine
+-- is accesses, one after another. Turns are made without the bridge where it is off. Attaching to the machine's second table never fails: beside
+-- bytes of the scratch memory all that it leaves is the timings in VALUE. At a restart the number of records is told, the client that was attached
+-- first is in use again, and the bridge is off
 pub data Plays (tells : Type 0) (counts : List ℕ) (old : PlayerState) : Played → Type 0 where
   Blank : Plays tells counts old (played_as blank [] [] [] old)
-  ByClient : (line : Line) (words : List ℕ) (machine : MachineState) → Commanded tells (asker_of (client_of old) (budget_of old)) old.machine line words machine
+  ByClient : (line : Line) (words : List ℕ) (machine : MachineState)
+      → Asked tells (asker_of (client_of old) (budget_of old)) old.machine line words machine × Reaches (Allows tells) old.machine machine
       → Plays tells counts old (one_reply line words (record old { machine = machine }))
   GivenTable : (hex bytes words : List ℕ) (machine : MachineState) (other : Option ClientState) → decode_of hex ≡ Ok bytes
       → GivesTable tells old.machine old.other bytes words machine other
@@ -147,13 +146,13 @@ IsOwnLine line = Unit {0}
 
 -- the reply is that the flash failed
 abbrev pub SaysHardware : List Reply → Type 0
-SaysHardware said = words_in said ≡ refused (codes "hardware") ∷ []
+SaysHardware said = map (λ (reply : Reply). reply.words) said ≡ refused (codes "hardware") ∷ []
 
 -- it is neither that a program was stopped, nor that the device was busy for too long
 abbrev pub SaysNoStop : List Reply → Type 0
 SaysNoStop said =
-    ((why : RunStop) → words_in said ≢ refused (codes "stopped " ++ words_of_stop why) ∷ [])
-    × ((waited : ℕ) → words_in said ≢ refused (codes "late " ++ decimal waited) ∷ [])
+    ((why : RunStop) → map (λ (reply : Reply). reply.words) said ≢ refused (codes "stopped " ++ words_of_stop why) ∷ [])
+    × ((waited : ℕ) → map (λ (reply : Reply). reply.words) said ≢ refused (codes "late " ++ decimal waited) ∷ [])
 
 -- One line that was played. By one of the machine's own two tables a command on records is the record map's; it says that the flash failed
 -- only where the flash's count of faults rose in this very line, and where its steps are enough it is never stopped, and never late
@@ -161,9 +160,9 @@ pub record LinePlayed (tells : Type 0) (counts : List ℕ) (old : PlayerState) (
   pub plays : Plays tells counts old played
   pub happened : HasHappened tells old.machine played.left.machine
   pub by_map : tells → UsesOwn old → names_command played.line ≡ true
-      → (words : List ℕ) × (played.said ≡ said_at (step_of played.left) (words ∷ [])) × Mapped (budget_of old) old.machine played.line words played.left.machine
+      → (words : List ℕ) × (played.said ≡ said_at (changes_in played.left.machine) (words ∷ [])) × Mapped (budget_of old) old.machine played.line words played.left.machine
   pub by_shadow : tells → UsesShadow old → names_command played.line ≡ true
-      → (words : List ℕ) × (played.said ≡ said_at (step_of played.left) (words ∷ [])) × ShadowMapped (budget_of old) old.machine played.line words played.left.machine
+      → (words : List ℕ) × (played.said ≡ said_at (changes_in played.left.machine) (words ∷ [])) × ShadowMapped (budget_of old) old.machine played.line words played.left.machine
   pub cause : UsesEither old → names_command played.line ≡ true → SaysHardware played.said → Rose old.machine.device.store.flash.faults played.left.machine.device.store.flash.faults
   pub enough : UsesEither old → names_command played.line ≡ true → enough_steps (client_of old).timings ≤ budget_of old → SaysNoStop played.said
   -- and power lost in it leaves the records from before it, or as it leaves them where nothing fails
@@ -208,7 +207,7 @@ pub record Occurred {L : Type 0} (hearing : L → Hearing) (tells : Type 0) (sin
   pub blocks : List (List ℕ)
   pub happened : Happened tells old.state line words blocks new.state
   pub told : Told hearing blocks old.members new.members
-  pub text : sink.tells → sink.after ≡ sink.before ++ replies_at (changes_in new.state) words
+  pub text : sink.tells → sink.after ≡ sink.before ++ text_of_replies (said_at (changes_in new.state) words)
 
 -- What is left of a line where the sink refused a reply: the line, what was made of it, the replies to that, those of them that were written
 -- whole, and the one that was refused. It is the last one, that of a block of the boot error region, or that of a block which a turn took;

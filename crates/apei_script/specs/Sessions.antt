@@ -11,9 +11,9 @@ use Rattle.apei_script.specs.Players.{PlayerState, client_of, budget_of, asker_o
 use Rattle.apei_script.specs.Replies.{IsMade}
 use Rattle.erst_machine.specs.MachineState.{MachineState}
 use Rattle.apei_script.specs.Asked.{ReadAsked}
-use Rattle.apei_script.specs.Words.{Reply, said_at, reply_at, replies_at, words_of_read}
+use Rattle.apei_script.specs.Words.{Reply, said_at, reply_at, words_of_read, text_of_replies}
 use Rattle.apei_script.specs.Happened.{Happened}
-use Rattle.apei_script.specs.Plays.{one_reply, Plays, LinePlayed, LeftIn, PartlyWritten, changes_in, step_of}
+use Rattle.apei_script.specs.Plays.{one_reply, Plays, LinePlayed, LeftIn, PartlyWritten, changes_in}
 
 abbrev pub state_of : {F : Type 0} → Session F → PlayerState
 state_of session = record { machine = session.machine; own = session.own; other = session.other; steps = session.steps; bridge = session.bridge }
@@ -45,7 +45,7 @@ pub record ReadPlayed (tells : Type 0) (old : PlayerState) (id : ℕ) (result : 
 pub record LineAnswered (tells : Type 0) (old : PlayerState) (line : Line) (new : PlayerState) (reply : List ℕ) : Type 0 where
   pub words : List ℕ
   pub played : CommandPlayed tells old line new words
-  pub text : reply ≡ reply_at (step_of new) words
+  pub text : reply ≡ reply_at (changes_in new.machine) words
 
 -- a line of one reply was carried out, whatever the listeners have heard, and its reply made but for the step behind it
 pub record MakesReply (tells : Type 0) (old : PlayerState) (line : Line) (new : PlayerState) (reply : List ℕ) : Type 0 where
@@ -63,7 +63,7 @@ pub record SameClients {F : Type 0} (old new : Session F) : Type 0 where
 pub record Lists (tells : Type 0) (sink : Stream) (machine : MachineState) : Type 0 where
   pub words : List (List ℕ)
   pub happened : Happened tells machine bert words [] machine
-  pub text : sink.tells → sink.after ≡ sink.before ++ replies_at (changes_in machine) words
+  pub text : sink.tells → sink.after ≡ sink.before ++ text_of_replies (said_at (changes_in machine) words)
 
 pub record ListsUnwritten (tells : Type 0) (sink : Stream) (machine : MachineState) : Type 0 where
   pub words : List (List ℕ)

@@ -21,13 +21,10 @@ abbrev pub words_of_write : List ℕ → Result (Unit {0}) ClientError → List 
 words_of_write bytes (Ok done) = codes "wrote " ++ decimal (id_of bytes) ++ codes " " ++ decimal (length bytes)
 words_of_write bytes (Err error) = refused (words_of_client error)
 
--- a record that was read: its identifier, its length, and its bytes as hexadecimal digits in lower case
-abbrev pub words_of_record : List ℕ → List ℕ
-words_of_record bytes = codes "record " ++ decimal (id_of bytes) ++ codes " " ++ decimal (length bytes) ++ codes " " ++ encode_lower bytes
-
 -- a read shows as many bytes of its buffer as it answers
 abbrev pub words_of_read : List ℕ → Result ℕ ClientError → List ℕ
-words_of_read out (Ok size) = words_of_record (take size out)
+words_of_read out (Ok size) =
+    let bytes = take size out in codes "record " ++ decimal (id_of bytes) ++ codes " " ++ decimal (length bytes) ++ codes " " ++ encode_lower bytes
 words_of_read out (Err error) = refused (words_of_client error)
 
 abbrev pub words_of_clear : ℕ → Result (Unit {0}) ClientError → List ℕ
@@ -79,10 +76,6 @@ abbrev pub words_of_laid : Result ℕ FatalError → List ℕ
 words_of_laid (Ok at) = codes "laid " ++ decimal at
 words_of_laid (Err error) = refused (words_of_fatal error)
 
--- how many blocks stand in the boot error region
-abbrev pub words_of_bert : ℕ → List ℕ
-words_of_bert n = codes "bert " ++ decimal n
-
 -- a reply: its words, and how many flash changes were made when it was given
 pub record Reply : Type 0 where
   pub words : List ℕ
@@ -95,9 +88,6 @@ at_step step words = record { words = words; step = step }
 abbrev pub said_at : ℕ → List (List ℕ) → List Reply
 said_at step words = map (at_step step) words
 
-abbrev pub words_in : List Reply → List (List ℕ)
-words_in said = map (λ (reply : Reply). reply.words) said
-
 -- the line of a reply has its words and its step
 abbrev pub reply_at : ℕ → List ℕ → List ℕ
 reply_at step words = words ++ (codes " @" ++ decimal step ++ 10 ∷ [])
@@ -105,6 +95,3 @@ reply_at step words = words ++ (codes " @" ++ decimal step ++ 10 ∷ [])
 -- replies one after another
 abbrev pub text_of_replies : List Reply → List ℕ
 text_of_replies said = flat_map (λ (reply : Reply). reply_at reply.step reply.words) said
-
-abbrev pub replies_at : ℕ → List (List ℕ) → List ℕ
-replies_at step words = text_of_replies (said_at step words)

@@ -1,10 +1,11 @@
 // What a line asks of the client in use.
-ghost use Rattle.std.specs.Prelude.{◌≡◌, ◌*◌, ◌≤◌, ℕ, List, length, true, Ok};
+ghost use Rattle.std.specs.Prelude.{◌≡◌, ◌*◌, ◌≤◌, ℕ, List, length, true, Ok, unwrap_or};
+ghost use Rattle.erst_client.specs.Timings.{enough_steps};
 ghost use Rattle.script_lines.specs.declared.lengths.TheConstants.{LONGEST_BYTES};
 ghost use Rattle.script_lines.specs.Parts.{IsPairs};
 ghost use Rattle.script_text.specs.ScriptGrammar.{Line, write, read, clear, count, next, dummy, action};
 ghost use Rattle.script_text.specs.ScriptText.{line_of};
-ghost use Rattle.apei_script.specs.{Players.budget_by, Players.asker_of, Words.words_of_write, Replies.IsMade, Asked.Answers, Plays.IsPlayable, Plays.asks_client, Sessions.state_of, Sessions.MakesReply};
+ghost use Rattle.apei_script.specs.{Players.asker_of, Words.words_of_write, Replies.IsMade, Asked.Answers, Plays.IsPlayable, Plays.asks_client, Sessions.state_of, Sessions.MakesReply};
 
 use crate::refusals::{refuse, refuse_behind};
 use crate::reply::{put_number, put_record};
@@ -60,7 +61,7 @@ fn run_command<F: Flash>(
     requires playable { IsPlayable (line_of line.now) }
     requires asks { asks_client (line_of line.now) ≡ true }
     requires room { length bytes.old ≡ LONGEST_BYTES }
-    ensures answers { Answers F.tells (asker_of client.old (budget_by steps client.old)) machine.old
+    ensures answers { Answers F.tells (asker_of client.old (unwrap_or steps (enough_steps client.old.timings))) machine.old
         (line_of line.now) machine.new reply.new }
     ensures kept { client.new ≡ client.old }
     ensures size { length bytes.new ≡ length bytes.old }

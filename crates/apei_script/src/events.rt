@@ -1,5 +1,6 @@
 // Lines that the listeners have a part in, and that of the boot error region: they have more than one reply, or one of any length.
-ghost use Rattle.std.specs.Prelude.{◌≡◌, ◌≤◌, ◌++◌, ◌∷◌, [], ℕ, List, length, take, true, false, IsTrue, OnOk, OnErr, IfSome, Some, None, Ok, ◌+◌, ◌-◌, ◌<◌};
+ghost use Rattle.std.specs.Prelude.{◌≡◌, ◌≤◌, ◌++◌, ◌∷◌, [], ℕ, List, length, take, true, false, IsTrue, OnOk, OnErr, IfSome, Some, None, Ok, ◌+◌, ◌-◌, ◌<◌, codes, decimal};
+ghost use Rattle.apei_notify.specs.Telling.{counts_of};
 ghost use Rattle.base_model.specs.Bytes.{part};
 ghost use Rattle.base_model.specs.Faults.{HasCause};
 ghost use Rattle.ghes_block.specs.Region.{next_from};
@@ -9,11 +10,10 @@ ghost use Rattle.apei_script.specs.Replies.{IsMade};
 ghost use Rattle.script_lines.specs.Streams.{stream_of};
 ghost use Rattle.script_text.specs.ScriptGrammar.{turns as turns_of};
 ghost use Rattle.script_text.specs.Turns.{side_of};
-ghost use Rattle.apei_script.specs.Words.{words_of_turns, words_of_heard, words_of_block, words_of_bert, reply_at};
+ghost use Rattle.apei_script.specs.Words.{words_of_turns, words_of_heard, words_of_block, reply_at};
 ghost use Rattle.apei_notify.specs.Chains.{members_of, boxed};
-ghost use Rattle.apei_script.specs.Plays.{changes_in, stage_in, Occurred, OccurredUnwritten};
+ghost use Rattle.apei_script.specs.Plays.{changes_in, stage_in, Occurred, OccurredUnwritten, Told};
 ghost use Rattle.apei_script.specs.Sessions.{state_of, SameClients, Lists, ListsUnwritten};
-ghost use Rattle.apei_script.specs.Played.{AreTold, heard_by};
 
 use crate::reply::{end_line, put_block};
 use crate::session::Session;
@@ -78,7 +78,7 @@ pub fn hear_of_block<F: Flash, O: Sink>(
     out: &mut O,
 ) -> Result<(), SinkFault>
     requires { Fits 4096 session.old.machine.handover.last }
-    ensures told { AreTold hearing (session.old.machine.handover.last ∷ []) chain.old chain.new }
+    ensures told { Told (boxed hearing) (session.old.machine.handover.last ∷ []) (members_of chain.old) (members_of chain.new) }
     ensures all { OnOk result (O.tells → O.written out.new
         ≡ O.written out.old ++ reply_at (changes_in session.old.machine)
         (words_of_block session.old.machine.handover.last)) }
@@ -217,10 +217,10 @@ fn end_list<F: Flash, O: Sink>(
     out: &mut O,
 ) -> Result<(), SinkFault>
     ensures all { OnOk result (O.tells → O.written out.new
-        ≡ O.written out.old ++ reply_at (changes_in session.old.machine) (words_of_bert count)) }
+        ≡ O.written out.old ++ reply_at (changes_in session.old.machine) (codes "bert " ++ decimal count)) }
     ensures part { OnErr result (O.tells → (n : ℕ)
         × (O.written out.new ≡ O.written out.old ++ take n (reply_at (changes_in session.old.machine)
-        (words_of_bert count)))) }
+        (codes "bert " ++ decimal count)))) }
     ensures session { state_of session.new ≡ state_of session.old }
     ensures cause { HasCause (O.faults out.old) (O.faults out.new) result }
 {
@@ -240,9 +240,9 @@ pub fn say_heard<F: Flash, O: Sink>(
 ) -> Result<(), SinkFault>
     ensures session { state_of session.new ≡ state_of session.old }
     ensures all { OnOk result (O.tells → O.written out.new ≡ O.written out.old
-        ++ reply_at (changes_in session.old.machine) (words_of_heard (heard_by hearing chain.now))) }
+        ++ reply_at (changes_in session.old.machine) (words_of_heard (counts_of (boxed hearing) (members_of chain.now)))) }
     ensures part { OnErr result (O.tells → (n : ℕ) × (O.written out.new ≡ O.written out.old
-        ++ take n (reply_at (changes_in session.old.machine) (words_of_heard (heard_by hearing chain.now))))) }
+        ++ take n (reply_at (changes_in session.old.machine) (words_of_heard (counts_of (boxed hearing) (members_of chain.now)))))) }
     ensures cause { HasCause (O.faults out.old) (O.faults out.new) result }
 {
     let step = session.machine.steps();

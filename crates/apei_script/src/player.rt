@@ -1,5 +1,6 @@
 // The player.
-ghost use Rattle.std.specs.Prelude.{◌≡◌, ◌≢◌, ◌≤◌, [], length, true, Ok, Err, OnOk, OnErr, IfOk, IfErr};
+ghost use Rattle.std.specs.Prelude.{◌≡◌, ◌≢◌, ◌≤◌, [], length, true, Ok, Err, OnOk, OnErr, IfOk, IfErr, None};
+ghost use Rattle.apei_script.specs.Bridged.{changes_in};
 ghost use Rattle.hex.specs.Hex.{encode_lower};
 ghost use Rattle.base_model.specs.Faults.{Rose, HasCause};
 ghost use Rattle.script_lines.specs.Streams.{stream_of};
@@ -7,14 +8,14 @@ ghost use Rattle.script_text.specs.ScriptGrammar.{write, clear, count, next, tur
 ghost use Rattle.script_text.specs.ScriptText.{line_of};
 ghost use Rattle.apei_notify.specs.Chains.{members_of};
 ghost use Rattle.apei_script.specs.declared.player.PlayStop.TheVariants.{SinkFault as TheSinkFault};
-ghost use Rattle.apei_script.specs.Players.{player_of};
+ghost use Rattle.erst_bridge.specs.Bridges.{Off};
 ghost use Rattle.erst_bridge.specs.Bridges.{Off};
 ghost use Rattle.erst_machine.specs.MachineState.{IsMachine};
 ghost use Rattle.erst_machine.specs.Shown.{changes_of};
-ghost use Rattle.apei_script.specs.Plays.{IsPlayable, Stops, step_of, has_one_reply};
+ghost use Rattle.apei_script.specs.Plays.{IsPlayable, Stops, has_one_reply};
 ghost use Rattle.apei_script.specs.Words.{words_of_write, words_of_clear, words_of_count, words_of_next};
 ghost use Rattle.apei_script.specs.Sessions.{state_of, CommandPlayed, ReadPlayed, LineAnswered, AnswersWrite, AnswersClear, AnswersCount, AnswersNext};
-ghost use Rattle.apei_script.specs.Played.{IsPlayed, IsUnwritten, IsStopped};
+ghost use Rattle.apei_script.specs.Played.{IsPlayed, IsUnwritten};
 
 use crate::bridged::bridged_turns;
 use crate::buffers::Buffers;
@@ -73,7 +74,8 @@ impl<F: Flash> Player<F> {
         chain: Chain,
         steps: Option<u64>,
     ) -> Result<Player<F>, PlayerRefused<F>>
-        ensures state { IfOk result (λ player. state_of player.session ≡ player_of machine own steps) }
+        ensures state { IfOk result (λ player. state_of player.session
+            ≡ record { machine = machine; own = own; other = None; steps = steps; bridge = Off }) }
         ensures listeners { IfOk result (λ player. members_of player.chain ≡ members_of chain) }
         ensures reply { IfOk result (λ player. player.session.buffers.reply ≡ []) }
         ensures machine_back { IfErr result (λ refused. (refused.machine ≡ machine) × (refused.own ≡ own)) }
@@ -106,7 +108,7 @@ impl<F: Flash> Player<F> {
         ensures unwritten { result ≡ Err PlayStop.SinkFault → IsUnwritten hearing F.tells
             (stream_of O.tells (O.written out.old) (O.written out.new)) self.old (line_of line.now) self.new }
         ensures stopped { IfErr result (λ stop. stop ≢ PlayStop.SinkFault
-            → IsStopped F.tells self.old (line_of line.now) self.new stop × (out.new ≡ out.old)) }
+            → (Stops F.tells (state_of self.old.session) (line_of line.now) (state_of self.new.session) stop × (members_of self.new.chain ≡ members_of self.old.chain)) × (out.new ≡ out.old)) }
         ensures fault { result ≡ Err PlayStop.SinkFault → Rose (O.faults out.old) (O.faults out.new) }
         ensures no_fault { result ≢ Err PlayStop.SinkFault → O.faults out.new ≡ O.faults out.old }
     {
@@ -215,7 +217,7 @@ impl<F: Flash> Player<F> {
 
         // The step behind each reply counts the changes that the flash tells.
         ensures counted { F.tells → changes_of (state_of self.now.session).machine
-            ≡ step_of (state_of self.now.session) }
+            ≡ changes_in (state_of self.now.session).machine }
     {
         self.session.machine.stands();
     }
@@ -229,7 +231,7 @@ impl<F: Flash> Player<F> {
 
     /// How many changes of the flash were made so far: the step behind a reply.
     pub fn steps(&self) -> u64
-        ensures { result ≡ step_of (state_of self.now.session) }
+        ensures { result ≡ changes_in (state_of self.now.session).machine }
     {
         self.session.machine.steps()
     }

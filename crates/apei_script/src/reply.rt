@@ -1,8 +1,9 @@
 // Replies that show a number or bytes, and ends of replies.
 ghost use Rattle.std.specs.Prelude.{◌≡◌, ◌+◌, ◌≤◌, ◌++◌, length, codes, decimal};
+ghost use Rattle.erst_commands.specs.Writes.{id_of};
 ghost use Rattle.hex.specs.Hex.{encode_lower};
 ghost use Rattle.apei_script.specs.Replies.{IsMade};
-ghost use Rattle.apei_script.specs.Words.{words_of_record, words_of_block, reply_at};
+ghost use Rattle.apei_script.specs.Words.{words_of_block, reply_at};
 
 use apei_bytes::{get_u32, get_u64};
 use cper_frame::ID_AT;
@@ -24,7 +25,7 @@ pub fn put_number(reply: &mut Reply, word: &[u8], n: u64)
 pub fn put_record(reply: &mut Reply, bytes: &[u8])
     requires least { 128 ≤ length bytes.now }
     requires most { length bytes.now ≤ 65536 }
-    ensures { IsMade reply.new (words_of_record bytes.now) }
+    ensures { IsMade reply.new (codes "record " ++ decimal (id_of bytes.now) ++ codes " " ++ decimal (length bytes.now) ++ codes " " ++ encode_lower bytes.now) }
 {
     put_bytes(reply, b"record ", get_u64(bytes, ID_AT), bytes);
 }

@@ -1,6 +1,5 @@
 -- The standard's words for the numbers and the GUIDs of a record.
 use Rattle.std.specs.Prelude.{ℕ, ◌==◌, if◌then◌else◌, List, [], ◌∷◌, Option, Some, None, codes, bytes_eq}
-use Rattle.cper_frame.specs.declared.names.Named.{Named}
 
 -- for the severities of records and their sections (UEFI 2.8, N.2.1)
 abbrev pub severity_word : ℕ → Option (List ℕ)
@@ -49,6 +48,3 @@ sections =
 abbrev pub name_in : List (List ℕ × List ℕ) → List ℕ → Option (List ℕ)
 name_in [] guid = None
 name_in (row ∷ rows) guid = if bytes_eq row.0 guid then Some row.1 else name_in rows guid
-
-abbrev pub row_of : Named → List ℕ × List ℕ
-row_of named = (named.guid.now, named.name.now)

@@ -1,7 +1,7 @@
 // The standard's words for the numbers and the GUIDs of a record.
 ghost use Rattle.std.specs.Prelude.{◌≡◌, map, option_map};
 ghost use Rattle.apei_bytes.specs.Guid.{guid_text};
-ghost use Rattle.cper_frame.specs.Names.{severity_word, notifications, sections, name_in, row_of};
+ghost use Rattle.cper_frame.specs.Names.{severity_word, notifications, sections, name_in};
 
 use apei_bytes::Guid;
 
@@ -148,7 +148,7 @@ pub fn section_name(guid: &Guid) -> Option<&'static str>
 }
 
 fn name_in(mut names: &[Named], guid: &[u8; 36]) -> Option<&'static str>
-    ensures { option_map (λ name. name.now) result ≡ name_in (map row_of names.entry.now) guid.now }
+    ensures { option_map (λ name. name.now) result ≡ name_in (map (λ named. (named.guid.now, named.name.now)) names.entry.now) guid.now }
 {
     while let [named, rest @ ..] = names {
         if named.guid == guid {

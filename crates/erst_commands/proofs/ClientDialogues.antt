@@ -24,10 +24,10 @@ use Rattle.erst_client.specs.Requests.{Performs, Asks, NoneLeft, Answered as ask
 use Rattle.erst_client.specs.Sequences.{Pauses, Untimed, Timed, TooOften, Busy, NotYet, Again, Waits, IsIdle, IsStopped, IsLate, judged, UntilStatus, NotAsked, NotWaited, NotTold, IsTold, Sequence, write_requests, read_requests}
 use Rattle.erst_client.specs.Commands.{ClientState, write_refusal, address_in, Puts, NotPut, NotMarked, IsPut, Writes, IsNoRecord, IsNotPut, IsAsked, copy_refusal, CopiesOut, IsFilled, IsNotFilled, copied, Reads, IsNotRead, HasNoLength, IsNotCopied, IsCopied, Counts, Names}
 use Rattle.erst_client.specs.Attaching.{Attaches, attach_requests}
-use Rattle.erst_commands.specs.Equivalence.{AskAlike}
 use Rattle.erst_commands.proofs.Dialogues.{Dialogue, Ends, Calls, go_on, Held, IsDone, Answered, done, then}
 use Rattle.erst_commands.proofs.RunDialogues.{answer_in, run_of, run_held}
 use Rattle.erst_client.proofs.Terms.{attached, counted, named, closed, end_steps}
+use Rattle.erst_commands.proofs.Terms.{AskAlike}
 
 abbrev filled_in : Call → List ℕ
 filled_in (ReadBytes at before after answer) = after

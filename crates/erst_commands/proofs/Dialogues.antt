@@ -3,7 +3,8 @@
 use Rattle.std.proofs.Common.{◌≡◌, ℕ, ◌-◌, ◌^◌, ◌<◌, ◌≤◌, refl, sym, ap, subst, ◌∙◌, arith, inl, inr}
 use Rattle.base_model.specs.Faults.{Rose}
 use Rattle.apei_space.specs.Calls.{Call}
-use Rattle.erst_commands.specs.Equivalence.{answered, AskAlike}
+use Rattle.erst_commands.specs.Equivalence.{answered}
+use Rattle.erst_commands.proofs.Terms.{AskAlike}
 
 -- it ends with a result, or makes a call and goes on by the call with its answer
 pub data Dialogue (A : Type 0) : Type 0 where

@@ -1,3 +1,4 @@
+pub mod Terms
 pub mod SharedLemmas
 pub mod OwnProgramLemmas
 pub mod ActionCases

@@ -5,9 +5,10 @@ use Rattle.apei_space.specs.Calls.{Call}
 use Rattle.erst_machine.specs.MachineState.{MachineState}
 use Rattle.erst_machine.specs.Allowed.{Allows}
 use Rattle.erst_machine.proofs.CrashTrail.{one_access}
-use Rattle.erst_commands.specs.Equivalence.{EquivalentMachines, FailedNothing, answered, AskAlike, EndAlike, IsDoneAlike}
+use Rattle.erst_commands.specs.Equivalence.{EquivalentMachines, FailedNothing, answered, EndAlike, IsDoneAlike}
 use Rattle.erst_commands.proofs.MachineOutlines.{answer_alike}
 use Rattle.erst_commands.proofs.Dialogues.{Dialogue, Held, ends_alike}
+use Rattle.erst_commands.proofs.Terms.{AskAlike}
 
 abbrev faults_of : MachineState → ℕ
 faults_of state = state.device.store.flash.faults

@@ -22,9 +22,10 @@ use Rattle.erst_machine.specs.Areas.{place_location, register_at}
 use Rattle.erst_machine.specs.Memories.{MemoryState, bytes_in, with_bytes}
 use Rattle.erst_machine.specs.MachineState.{MachineState, location_of}
 use Rattle.erst_machine.specs.Allowed.{ActsOn, write_of, RegisterWritten, NumberWritten, number_read, register_read, put_in, bytes_read, bytes_stored, copy_fault, copied_to, copied, copy_of, Allows}
-use Rattle.erst_commands.specs.Equivalence.{DeviceOutline, MachineOutline, device_outline, machine_outline, EquivalentMachines, FailedNothing, bytes_shown, any_buffer, answered, AskAlike}
+use Rattle.erst_commands.specs.Equivalence.{DeviceOutline, MachineOutline, device_outline, machine_outline, EquivalentMachines, FailedNothing, bytes_shown, answered}
 use Rattle.erst_commands.proofs.DeviceOutlines.{Became, became, became_alike}
 use Rattle.erst_machine.proofs.Words.{copied_from}
+use Rattle.erst_commands.proofs.Terms.{AskAlike, any_buffer}
 
 pub same_machine : (s t : MachineOutline) → s.device ≡ t.device → s.memory ≡ t.memory → s.handover ≡ t.handover → s.waited ≡ t.waited → s ≡ t
 same_machine s t device memory handover waited =

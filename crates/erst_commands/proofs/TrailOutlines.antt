@@ -12,9 +12,10 @@ use Rattle.erst_machine.specs.MachineState.{MachineState, IsMachine, records_of}
 use Rattle.erst_machine.specs.Events.{Event, Happens}
 use Rattle.erst_machine.proofs.CrashTrail.{events_are_shown}
 use Rattle.erst_machine.proofs.EventLemmas.{events_keep}
-use Rattle.erst_commands.specs.Equivalence.{machine_outline, EquivalentMachines, FailedNothing, asked_event, answered_event, asked_by, answered_by, BootsFrom}
+use Rattle.erst_commands.specs.Equivalence.{machine_outline, EquivalentMachines, FailedNothing, asked_event, answered_event, BootsFrom}
 use Rattle.erst_commands.proofs.Dialogues.{quiet_first, quiet_second}
 use Rattle.erst_commands.proofs.EventOutlines.{happens_alike, boots_alike}
+use Rattle.erst_commands.proofs.Terms.{asked_by, answered_by}
 
 abbrev faults_of : MachineState → ℕ
 faults_of state = state.device.store.flash.faults

@@ -1,6 +1,6 @@
 -- Two stores, devices or machines that are equivalent: all that is seen of them is the same, but for the slots in which the records stand, and
 -- the flash's counts of reads and faults.
-use Rattle.std.specs.Prelude.{◌≡◌, ℕ, ◌+◌, Bool, List, [], length, take, map, replicate, Option, Result, Ok, Err}
+use Rattle.std.specs.Prelude.{◌≡◌, ℕ, ◌+◌, Bool, List, [], length, take, replicate, Option, Result, Ok, Err}
 use Rattle.base_model.specs.Faults.{Rose}
 use Rattle.base_model.specs.Flash.{FlashState}
 use Rattle.base_model.specs.Layout.{Layout}
@@ -10,7 +10,6 @@ use Rattle.record_store.specs.Store.{StoreView, Pending, Idle, Writing, Clearing
 use Rattle.record_store.specs.Answers.{copies_of}
 use Rattle.apei_space.specs.declared.faults.SpaceFault.{SpaceFault}
 use Rattle.apei_space.specs.Calls.{Call, Read, Write, Wait, Copy, ReadBytes, WriteBytes}
-use Rattle.apei_space.specs.Accesses.{Move}
 use Rattle.ghes_ack.specs.declared.events.Event.TheVariants as turns
 use Rattle.ghes_ack.specs.Handovers.{HandoverState}
 use Rattle.erst_client.specs.declared.errors.ClientError.{ClientError}
@@ -61,10 +60,7 @@ pub record MachineOutline : Type 0 where
 abbrev pub machine_outline : MachineState → MachineOutline
 machine_outline machine = record { device = device_outline machine.device; memory = machine.memory; handover = machine.handover; waited = machine.waited }
 
--- two devices, or machines, are equivalent: they have one outline
-abbrev pub EquivalentDevices : DeviceState → DeviceState → Type 0
-EquivalentDevices one other = device_outline one ≡ device_outline other
-
+-- two machines are equivalent: they have one outline. So are two devices
 abbrev pub EquivalentMachines : MachineState → MachineState → Type 0
 EquivalentMachines one other = machine_outline one ≡ machine_outline other
 
@@ -81,27 +77,19 @@ abbrev pub bytes_shown : Result (Unit {0}) SpaceFault → List ℕ → List ℕ
 bytes_shown (Ok done) bytes = bytes
 bytes_shown (Err fault) bytes = []
 
--- a buffer of so many bytes, whatever they are
-abbrev pub any_buffer : List ℕ → List ℕ
-any_buffer buffer = replicate (length buffer) 0
-
--- a call as it is asked, without its answer, where a buffer counts by its length
+-- a call as it is asked, without its answer, where a buffer counts by its length alone: it has as many zeros
 abbrev pub asked : Call → Call
 asked (Read at width answer) = Read at width (Ok 0)
 asked (Write at width value answer) = Write at width value (Ok tt)
 asked (Wait micros) = Wait micros
 asked (Copy from target len answer) = Copy from target len (Ok tt)
-asked (ReadBytes at before after answer) = ReadBytes at (any_buffer before) [] (Ok tt)
+asked (ReadBytes at before after answer) = ReadBytes at (replicate (length before) 0) [] (Ok tt)
 asked (WriteBytes at bytes answer) = WriteBytes at bytes (Ok tt)
 
 -- and as it is answered
 abbrev pub answered : Call → Call
-answered (ReadBytes at before after answer) = ReadBytes at (any_buffer before) (bytes_shown answer after) answer
+answered (ReadBytes at before after answer) = ReadBytes at (replicate (length before) 0) (bytes_shown answer after) answer
 answered call = call
-
--- two calls ask the same
-abbrev pub AskAlike : Call → Call → Type 0
-AskAlike one other = asked one ≡ asked other
 
 -- two ends of what was done: the same answer, as many steps left of a budget, and machines that are equivalent
 pub record EndAlike {A : Type 0} (answer also : A) (left also_left : ℕ) (one_after other_after : MachineState) : Type 0 where
@@ -129,13 +117,6 @@ asked_event (Laid block result) = Laid block (Ok 0)
 abbrev pub answered_event : Event → Event
 answered_event (Accessed call) = Accessed (answered call)
 answered_event event = event
-
--- moves as they are asked, and as they are answered
-abbrev pub asked_by : List (Move Event MachineState) → List Event
-asked_by moves = map (λ move. asked_event move.event) moves
-
-abbrev pub answered_by : List (Move Event MachineState) → List Event
-answered_by moves = map (λ move. answered_event move.event) moves
 
 -- a machine was booted over a flash that tells its content: the flash's records are kept, and each second copy is ended by one change
 pub record BootsFrom (geometry : Geometry) (flash : FlashState) (machine : MachineState) : Type 0 where

@@ -16,7 +16,7 @@ use Rattle.erst_device.specs.DeviceState.{DeviceState, KnowsCopies}
 use Rattle.erst_machine.specs.MachineState.{MachineState, IsMachine, records_of}
 use Rattle.erst_machine.specs.Allowed.{Allows}
 use Rattle.erst_machine.specs.Boots.{IsBooted}
-use Rattle.erst_commands.specs.Equivalence.{FailsNothing, FailedNothing, EquivalentDevices, EquivalentMachines, EndAlike, BootsFrom, record_in, bytes_shown}
+use Rattle.erst_commands.specs.Equivalence.{FailsNothing, FailedNothing, EquivalentMachines, EndAlike, BootsFrom, record_in, bytes_shown, device_outline}
 
 -- an action of a device over a flash that fails nothing: the device and the log range behind it
 pub record QuietAction (tells : Type 0) (action : Option Action) (old : DeviceState) (range : List ℕ) (new : DeviceState) (new_range : List ℕ) : Type 0 where
@@ -28,8 +28,9 @@ pub record QuietAction (tells : Type 0) (action : Option Action) (old : DeviceSt
 abbrev pub EachActionIsAlike : (tells : Type 0) → Option Action → Type 0
 EachActionIsAlike tells action =
     (one other : DeviceState) (range : List ℕ) (one_after : DeviceState) (one_range : List ℕ) (other_after : DeviceState) (other_range : List ℕ)
-    → EquivalentDevices one other → QuietAction tells action one range one_after one_range → QuietAction tells action other range other_after other_range
-    → EquivalentDevices one_after other_after × (one_range ≡ other_range)
+    → device_outline one ≡ device_outline other
+    → QuietAction tells action one range one_after one_range → QuietAction tells action other range other_after other_range
+    → (device_outline one_after ≡ device_outline other_after) × (one_range ≡ other_range)
 
 -- what is done to this machine and to another that is equivalent, asked the same of both, over flashes that fail nothing: it is answered the
 -- same and leaves machines that are equivalent
@@ -52,14 +53,12 @@ pub record ShownBytes : Type 0 where
   pub answer : Result (Unit {0}) SpaceFault
   pub last : MachineState
 
-abbrev pub ShowsBytes : (tells : Type 0) (at : ℕ) → MachineState → ShownBytes → Type 0
-ShowsBytes tells at first shown = Allows tells first (ReadBytes at shown.before shown.after shown.answer) shown.last
-
 -- into buffers of the same length it is answered the same, and fills them alike, whatever the flashes do
 abbrev pub EachReadOfBytesIsAlike : (tells : Type 0) (at : ℕ) → Type 0
 EachReadOfBytesIsAlike tells at =
     (one other : MachineState) (shown also : ShownBytes) → EquivalentMachines one other → length shown.before ≡ length also.before
-    → ShowsBytes tells at one shown → ShowsBytes tells at other also
+    → Allows tells one (ReadBytes at shown.before shown.after shown.answer) shown.last
+    → Allows tells other (ReadBytes at also.before also.after also.answer) also.last
     → (shown.answer ≡ also.answer) × (bytes_shown shown.answer shown.after ≡ bytes_shown also.answer also.after) × EquivalentMachines shown.last also.last
 
 -- a client's read: what the buffer holds before and behind it, its answer, the steps that are left and the machine that it leaves

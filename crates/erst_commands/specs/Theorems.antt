@@ -7,17 +7,20 @@ use Rattle.erst_client.specs.declared.errors.AttachError.{AttachError}
 use Rattle.erst_client.specs.declared.errors.ClientError.TheVariants.{Stopped}
 use Rattle.erst_client.specs.declared.requests.Request.{Request}
 use Rattle.erst_client.specs.Commands.{ClientState}
-use Rattle.erst_client.specs.Sequences.{write_requests, clear_requests}
+use Rattle.erst_client.specs.Sequences.{write_requests, clear_requests, dummy_requests}
 use Rattle.erst_client.specs.Steps.{steps_needed}
 use Rattle.erst_machine.specs.MachineState.{MachineState, reach_in}
 use Rattle.erst_machine.specs.Allowed.{Allows}
 use Rattle.erst_machine.specs.OwnTables.{own_entries, own_erst}
-use Rattle.erst_commands.specs.AsTheMap.{checks_of, steps_given, CountsAsTheMap, NamesAsTheMap, ChangesAsTheMap, ReadsAsTheMap, ChangesNothing, WritesAsTheMap, CopiesAsTheMap}
+use Rattle.erst_commands.specs.AsTheMap.{checks_of, steps_given, ChangesAsTheMap}
 use Rattle.erst_commands.specs.Attached.{own_client, AttachesOwn}
 use Rattle.erst_commands.specs.Causes.{HasItsCause, GoesThrough}
-use Rattle.erst_commands.specs.Changes.{HoldsRecord}
-use Rattle.erst_commands.specs.Operations.{ClientOperation, WriteOperation, ReadOperation, ClearOperation, DummyWriteOperation, requests_of, IsGivenRight}
+use Rattle.erst_commands.specs.Changes.{HoldsRecord, DummyCommand}
+use Rattle.erst_commands.specs.Operations.{ClientOperation, WriteOperation, ReadOperation, ClearOperation, DummyWriteOperation, IsGivenRight}
 use Rattle.erst_commands.specs.Runs.{TableOver, RunFrom, CallFrom, shown_run, IsAttaching, IsSequence, IsCount, IsNext, IsWrite, IsRead}
+use Rattle.erst_commands.specs.Looks.{AsksOnce, CountMade, NextMade}
+use Rattle.erst_commands.specs.Reads.{ReadCommand, ReadAnswered}
+use Rattle.erst_commands.specs.Writes.{WriteAnswered}
 
 -- the timings that a client of the machine finds
 abbrev pub timings_in : {W : Type 0} → TableOver W → W → Option (ℕ × ℕ)
@@ -31,10 +34,14 @@ AttachingFindsItsClient tells first =
 
 -- a count and a next
 abbrev pub EachCountIsTheMaps : {W : Type 0} → TableOver W → W → Type 0
-EachCountIsTheMaps table first = (run : CallFrom first ℕ) → IsCount table run → CountsAsTheMap (shown_run table run)
+EachCountIsTheMaps table first =
+    (run : CallFrom first ℕ) → IsCount table run
+    → AsksOnce (CountMade (table.shows first) (table.shows run.last)) run.budget (table.shows first) (table.shows run.last) run.answer run.left
 
 abbrev pub EachNextIsTheMaps : {W : Type 0} → TableOver W → W → Type 0
-EachNextIsTheMaps table first = (run : CallFrom first (Option ℕ)) → IsNext table run → NamesAsTheMap (shown_run table run)
+EachNextIsTheMaps table first =
+    (run : CallFrom first (Option ℕ)) → IsNext table run
+    → AsksOnce (NextMade (table.shows first) (table.shows run.last)) run.budget (table.shows first) (table.shows run.last) run.answer run.left
 
 -- a write's sequence, from a log range that begins with the record; a clear's; a dummy write's; and a read's
 abbrev pub EachWriteIsTheMaps : {W : Type 0} → TableOver W → W → Type 0
@@ -50,22 +57,24 @@ EachClearIsTheMaps table first =
 
 abbrev pub EachDummyWriteChangesNothing : {W : Type 0} → TableOver W → W → Type 0
 EachDummyWriteChangesNothing table first =
-    (run : CallFrom first (Unit {0})) → IsSequence table (timings_in table first) DummyWriteOperation run → ChangesNothing (shown_run table run)
+    (run : CallFrom first (Unit {0})) → IsSequence table (timings_in table first) DummyWriteOperation run
+    → DummyCommand (table.shows first) (table.shows run.last) dummy_requests run.budget run.answer run.left
 
 abbrev pub EachReadIsTheMaps : {W : Type 0} → TableOver W → W → Type 0
 EachReadIsTheMaps table first =
     (id : ℕ) → id < 2 ^ 64 → (timings : Option (ℕ × ℕ)) (run : CallFrom first (Unit {0})) → IsSequence table timings (ReadOperation id) run
-    → ReadsAsTheMap id (shown_run table run)
+    → ReadCommand (table.shows first) (table.shows run.last) id run.budget run.answer run.left
 
 -- a client's write of any bytes, and its read into any buffer
 abbrev pub ClientWritesAsTheMap : {W : Type 0} → TableOver W → ClientState → W → Type 0
 ClientWritesAsTheMap table client first =
-    (bytes : List ℕ) (run : CallFrom first (Unit {0})) → IsWrite table client bytes run → WritesAsTheMap bytes (shown_run table run)
+    (bytes : List ℕ) (run : CallFrom first (Unit {0})) → IsWrite table client bytes run
+    → WriteAnswered bytes run.budget (table.shows first) run.answer run.left (table.shows run.last)
 
 abbrev pub ClientReadsAsTheMap : {W : Type 0} → TableOver W → ClientState → W → Type 0
 ClientReadsAsTheMap table client first =
     (id : ℕ) → id < 2 ^ 64 → (out after : List ℕ) (run : CallFrom first ℕ) → IsRead table client id out after run
-    → CopiesAsTheMap id out after (shown_run table run)
+    → ReadAnswered id out run.budget (table.shows first) run.answer after run.left (table.shows run.last)
 
 -- the flash's count of faults never falls, and `Hardware` is answered only where it rose
 abbrev pub RunHasItsCause : {W T : Type 0} {first : W} → TableOver W → CallFrom first T → Type 0
@@ -117,11 +126,7 @@ pub record StepsAreEnough (steps : ClientOperation → (checks : ℕ) → ℕ) (
   pub read : (id : ℕ) → steps (ReadOperation id) 1 ≤ steps_given state
   pub dummy : steps DummyWriteOperation 1 ≤ steps_given state
 
--- by the machine's own table
-abbrev pub own_steps : ClientOperation → (checks : ℕ) → ℕ
-own_steps operation checks = steps_needed own_entries (requests_of operation) checks
-
--- a write or a clear with the steps of its changes is not stopped
+-- by the machine's own table, a write or a clear with the steps of its changes is not stopped
 abbrev pub NoChangeWithItsStepsIsStopped : MachineState → Type 0
 NoChangeWithItsStepsIsStopped first =
     (id : ℕ) (command : Command) (requests : List Request) (run : CallFrom first (Unit {0})) → steps_needed own_entries requests (checks_of first command) ≤ run.budget

@@ -1,5 +1,5 @@
 // Laws on two machines that are equivalent: the functions do nothing, and their clauses are the laws.
-ghost use Rattle.std.specs.Prelude.{ℕ, List, Option, Result};
+ghost use Rattle.std.specs.Prelude.{ℕ, List, Option, Result, map};
 ghost use Rattle.flash_model.specs.declared.geometry.Geometry.{Geometry};
 ghost use Rattle.apei_space.specs.Accesses.{Trail};
 ghost use Rattle.ghes_ack.specs.declared.events.Side.{Side as AnySide};
@@ -19,7 +19,7 @@ ghost use Rattle.erst_client.specs.Commands.{ClientState, Writes, Counts, Names}
 ghost use Rattle.erst_machine.specs.MachineState.{MachineState, IsMachine};
 ghost use Rattle.erst_machine.specs.Allowed.{Allows};
 ghost use Rattle.erst_machine.specs.Events.{Happens, Submits, Turns, LaysFatal};
-ghost use Rattle.erst_commands.specs.Equivalence.{IsDoneAlike, asked, answered, asked_event, answered_event, asked_by, answered_by};
+ghost use Rattle.erst_commands.specs.Equivalence.{IsDoneAlike, asked, answered, asked_event, answered_event};
 ghost use Rattle.erst_commands.specs.EquivalentTheorems.{EachActionIsAlike, IsMadeAlike, IsAnsweredAlike, EachReadOfBytesIsAlike, EachRecordIsReadAlike, EachBufferIsFilledAlike};
 ghost use Rattle.erst_commands.specs.EquivalentTheorems.{EachBootIsAlike, EachFlashBootsAlike, EachRegionHasOneList};
 
@@ -109,7 +109,8 @@ pub fn equivalent_machines_go_on_alike<F: Flash>()
 /// So does whatever happens to two machines that are equivalent, one event after another.
 pub fn equivalent_machines_stay_alike<F: Flash>()
     ensures { F.tells → (one : MachineState) → IsMachine one
-        → IsMadeAlike asked_by answered_by (Trail (Happens F.tells)) one }
+        → IsMadeAlike (λ moves. map (λ move. asked_event move.event) moves) (λ moves. map (λ move. answered_event move.event) moves)
+        (Trail (Happens F.tells)) one }
 {}
 
 /// Machines of one geometry that have just booted are equivalent where they hold the same records and their flashes have made as many changes;

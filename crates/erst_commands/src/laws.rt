@@ -1,11 +1,14 @@
 // Laws on the machine's own table: the functions do nothing, and their clauses are the laws.
+ghost use Rattle.erst_commands.specs.Operations.{requests_of};
+ghost use Rattle.erst_machine.specs.OwnTables.{own_entries};
+ghost use Rattle.erst_client.specs.Steps.{steps_needed};
 ghost use Rattle.std.specs.Prelude.{ℕ};
 ghost use Rattle.erst_machine.specs.MachineState.{MachineState, IsMachine};
 ghost use Rattle.erst_commands.specs.OwnPrograms.{OwnProgramsRun};
 ghost use Rattle.erst_commands.specs.Attached.{own_client};
 ghost use Rattle.erst_commands.specs.Runs.{own_table};
 ghost use Rattle.erst_commands.specs.Theorems.{AttachingFindsItsClient, EachCountIsTheMaps, EachNextIsTheMaps, EachWriteIsTheMaps, EachClearIsTheMaps, EachDummyWriteChangesNothing, EachReadIsTheMaps};
-ghost use Rattle.erst_commands.specs.Theorems.{ClientWritesAsTheMap, ClientReadsAsTheMap, EachFramedRecordIsShownWhole, own_steps, StepsAreEnough, NoChangeWithItsStepsIsStopped};
+ghost use Rattle.erst_commands.specs.Theorems.{ClientWritesAsTheMap, ClientReadsAsTheMap, EachFramedRecordIsShownWhole, StepsAreEnough, NoChangeWithItsStepsIsStopped};
 ghost use Rattle.erst_commands.specs.Theorems.{EachSequenceHasItsCause, EachCountHasItsCause, EachNextHasItsCause, EachWriteHasItsCause, EachReadHasItsCause};
 ghost use Rattle.erst_commands.specs.Theorems.{EachSequenceGoesThrough, EachCountGoesThrough, EachNextGoesThrough, EachWriteGoesThrough, EachReadGoesThrough};
 
@@ -125,6 +128,6 @@ pub fn a_framed_record_is_shown_whole()
 /// The steps that a client takes by the machine's timings are enough for each of its commands, and a write or clear that has the steps
 /// of its changes is not stopped.
 pub fn enough_steps_are_enough()
-    ensures enough { (state : MachineState) → StepsAreEnough own_steps state }
+    ensures enough { (state : MachineState) → StepsAreEnough (λ operation checks. steps_needed own_entries (requests_of operation) checks) state }
     ensures not_stopped { (first : MachineState) → NoChangeWithItsStepsIsStopped first }
 {}

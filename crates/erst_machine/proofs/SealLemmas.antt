@@ -11,7 +11,7 @@ use Rattle.erst_entries.specs.Layout.{Erst, entry_spelling, front_spelling, spel
 use Rattle.erst_entries.specs.Tables.{Finished}
 use Rattle.hest_sources.specs.Layout.{ghes_bytes}
 use Rattle.erst_machine.specs.Memories.{zeros}
-use Rattle.erst_machine.specs.OwnTables.{own_header, own_entries, own_size, own_checksum, own_erst, own_source, own_hest, own_bert_bytes}
+use Rattle.erst_machine.specs.OwnTables.{own_header, own_entries, own_size, own_erst, own_source, own_hest, own_bert_bytes}
 use Rattle.erst_machine.proofs.Words.{own_count}
 
 sum-byte : (front rest : List ℕ) (x : ℕ) → sum (front ++ x ∷ rest) ≡ sum front + (x + sum rest)
@@ -114,7 +114,7 @@ erst_around : (checksum : ℕ) → spelling (erst_with checksum) ≡ erst_front 
 unfolding erst_with erst_front erst_rest spelling front_spelling header_spelling entry_spelling spelled own_entries
 erst_around checksum = refl
 
-erst_sum : sum (erst_front ++ own_checksum ∷ erst_rest) % 256 ≡ 0
+erst_sum : sum (erst_front ++ 0x83 ∷ erst_rest) % 256 ≡ 0
 unfolding erst_front erst_rest spelling front_spelling header_spelling entry_spelling spelled own_entries
 erst_sum = refl
 
@@ -142,5 +142,5 @@ sealed_erst entries new bytes all sealed finished spelled_is fits =
     let c : ℕ = new.header.checksum in
     let is : spelling new ≡ erst_front ++ c ∷ erst_rest =
     ap spelling (finished_is new (subst (λ (es : List Entry). Finished (blank_erst es) new) all finished)) ∙ erst_around c in
-    let same : c ≡ own_checksum = same_byte erst_front erst_rest c own_checksum fits (lit< tt) (sym (ap (λ (xs : List ℕ). sum xs % 256) is) ∙ sealed.sum) erst_sum in
-    spelled_is ∙ is ∙ ap (λ (x : ℕ). erst_front ++ x ∷ erst_rest) same ∙ sym (erst_around own_checksum)
+    let same : c ≡ 0x83 = same_byte erst_front erst_rest c 0x83 fits (lit< tt) (sym (ap (λ (xs : List ℕ). sum xs % 256) is) ∙ sealed.sum) erst_sum in
+    spelled_is ∙ is ∙ ap (λ (x : ℕ). erst_front ++ x ∷ erst_rest) same ∙ sym (erst_around 0x83)

@@ -15,7 +15,7 @@ use Rattle.hest_sources.specs.declared.sources.HestSource.TheVariants.{Ghes as G
 use Rattle.hest_sources.specs.Layout.{ghes_bytes, IsGhes}
 use Rattle.hest_sources.specs.Tables.{IsHest}
 use Rattle.ghes_block.specs.Table.{IsBert}
-use Rattle.erst_machine.specs.OwnTables.{own_header, value_register, act, give, is_one, answer, tell, told_actions, own_entries, own_size, own_checksum, own_erst, own_source, own_hest, own_bert, own_bert_bytes}
+use Rattle.erst_machine.specs.OwnTables.{own_header, value_register, act, give, is_one, answer, tell, told_actions, own_entries, own_size, own_erst, own_source, own_hest, own_bert, own_bert_bytes}
 use Rattle.erst_machine.proofs.SealLemmas.{count_is}
 use Rattle.erst_machine.proofs.Words.{action_register}
 
@@ -77,7 +77,7 @@ header_fits signature size checksum four small byte = record {
 }
 
 pub erst_fits : FitsErst own_erst
-erst_fits = record { header = header_fits (codes "ERST") own_size own_checksum refl (lit< tt) (lit< tt); header_size = lit< tt; reserved = lit< tt; count = lit< tt; entries = entries_fit }
+erst_fits = record { header = header_fits (codes "ERST") own_size 0x83 refl (lit< tt) (lit< tt); header_size = lit< tt; reserved = lit< tt; count = lit< tt; entries = entries_fit }
 
 own_erst_size : length (spelling own_erst) ≡ own_size
 unfolding spelling front_spelling header_spelling entry_spelling spelled own_entries

@@ -1,5 +1,5 @@
 -- The machine's memory map, and where an access of it stands.
-use Rattle.std.specs.Prelude.{ℕ, ◌+◌, ◌-◌, ◌≤◌, ◌==◌, ◌&&◌, nat_le, nat_lt, if◌then◌else◌, Bool, true, false, List, [], ◌∷◌, Option, Some, None, unwrap_or, Result, Ok, Err}
+use Rattle.std.specs.Prelude.{ℕ, ◌+◌, ◌-◌, ◌≤◌, ◌==◌, ◌&&◌, nat_le, nat_lt, if◌then◌else◌, Bool, true, false, List, [], ◌∷◌, map, Option, Some, None, unwrap_or, Result, Ok, Err}
 use Rattle.apei_tables.specs.declared.registers.Place.{Place}
 use Rattle.apei_tables.specs.declared.registers.Place.TheVariants.{Memory, Io}
 use Rattle.apei_tables.specs.declared.widths.Width.{Width}
@@ -92,12 +92,9 @@ place_of Handover = Memory (base_of Handover)
 place_of BootErrors = Memory (base_of BootErrors)
 place_of Ports = Io (base_of Ports)
 
-abbrev pub window_of : ℕ → Area → Window
-window_of reach area = record { place = place_of area; len = size_of reach area }
-
 abbrev pub all_windows : ℕ → List Window
 all_windows reach =
-    window_of reach Device ∷ window_of reach Scratch ∷ window_of reach LogRange ∷ window_of reach Handover ∷ window_of reach BootErrors ∷ window_of reach Ports ∷ []
+    map (λ (area : Area). record { place = place_of area; len = size_of reach area }) (Device ∷ Scratch ∷ LogRange ∷ Handover ∷ BootErrors ∷ Ports ∷ [])
 
 -- what an access finds: all its bytes, or the address of the first that is not mapped
 abbrev pub finds : Location → Result ℕ ℕ

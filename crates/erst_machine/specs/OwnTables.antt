@@ -78,13 +78,9 @@ own_entries =
 abbrev pub own_size : ℕ
 own_size = 48 + 32 * (24 + length (tell told_actions))
 
--- the checksum that makes its bytes add to 0
-abbrev pub own_checksum : ℕ
-own_checksum = 0x83
-
 abbrev pub own_erst : Erst
 own_erst = record {
-  header = own_header (codes "ERST") own_size own_checksum;
+  header = own_header (codes "ERST") own_size 0x83;
   header_size = 48;
   reserved = 0;
   count = 24 + length (tell told_actions);

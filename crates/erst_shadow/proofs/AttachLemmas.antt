@@ -40,13 +40,14 @@ use Rattle.erst_commands.proofs.AskLemmas.{with_answer, FirstAsked, Went, Halted
 use Rattle.erst_commands.proofs.LimitLemmas.{timings-halves}
 use Rattle.erst_shadow.specs.MoveEntries.{MoveRegister, Offset, Source, Length, address_of, put_number, use_register, move_entries}
 use Rattle.erst_shadow.proofs.PlainLemmas.{number-put}
-use Rattle.erst_shadow.specs.ShadowTables.{scratch_at, shadow_entries, shadow_erst}
-use Rattle.erst_shadow.specs.ShadowMoves.{holding, HoldsPieces}
+use Rattle.erst_shadow.specs.ShadowTables.{shadow_entries, shadow_erst}
+use Rattle.erst_shadow.specs.ShadowMoves.{holding}
 use Rattle.erst_shadow.specs.ShadowCommands.{pieces_in, shadow_client, AttachesShadow}
 use Rattle.erst_shadow.proofs.MoveLemmas.{put, value, place_in, register_low, register_read, register_written}
 use Rattle.erst_shadow.proofs.ProgramLemmas.{performs_own}
 use Rattle.erst_shadow.proofs.CommandLemmas.{holds_pieces}
 use Rattle.erst_client.proofs.Terms.{client_of, attached}
+use Rattle.erst_shadow.proofs.Terms.{HoldsPieces, scratch_at}
 
 abbrev register_at : MoveRegister → Register
 register_at r = record { place = Memory (address_of r); access = B64; offset = 0 }

@@ -15,8 +15,9 @@ use Rattle.erst_interp.specs.Instructions.{TakeField, StoreValue, HasWork}
 use Rattle.erst_interp.specs.Steps.{Step, Takes, Stores, Halt}
 use Rattle.erst_interp.specs.Runs.{Walk, Begun as WalkBegun, Then as WalkThen, Run, Finishes as RunFinishes, Exhausted as RunExhausted, HasEntry, task_of}
 use Rattle.erst_shadow.specs.MoveEntries.{move_entries}
-use Rattle.erst_shadow.specs.MoveRuns.{move_then, standing, WalkFrom, Begun, Then, RunFrom, Finishes, Exhausted, Halts}
+use Rattle.erst_shadow.specs.MoveRuns.{move_then}
 use Rattle.erst_interp.proofs.StepLemmas.{step_by}
+use Rattle.erst_shadow.proofs.Terms.{standing, WalkFrom, RunFrom, Begun, Then, Finishes, Exhausted, Halts}
 
 -- an entry whose work is its own value's and its register's alone
 pub data IsOfItsOwn (entry : Entry) : Type 0 where

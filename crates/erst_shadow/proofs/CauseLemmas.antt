@@ -15,11 +15,12 @@ use Rattle.erst_commands.specs.Attached.{own_client}
 use Rattle.erst_commands.specs.Causes.{HasItsCause}
 use Rattle.erst_commands.proofs.CallCauses.{write_cause, clear_cause, dummy_cause, read_cause, writes_cause, reads_cause}
 use Rattle.erst_shadow.specs.ShadowTables.{shadow_entries, pieces_of}
-use Rattle.erst_shadow.specs.ShadowMoves.{holding, range_with_record, HoldsPieces}
+use Rattle.erst_shadow.specs.ShadowMoves.{holding}
 use Rattle.erst_shadow.specs.ShadowSequences.{SequenceAsOwn}
 use Rattle.erst_shadow.specs.ShadowCommands.{pieces_in, shadow_client}
 use Rattle.erst_shadow.proofs.SequenceLemmas.{write_as_own, clear_as_own, read_as_own, dummy_as_own}
 use Rattle.erst_shadow.proofs.CommandLemmas.{holds_pieces}
+use Rattle.erst_shadow.proofs.Terms.{HoldsPieces, range_with_record}
 
 module _ (tells : Type 0) (own : OwnProgramsRun tells) (pieces : ℕ) (timings : Option (ℕ × ℕ)) (budget : ℕ) (first : MachineState) (rooms : HoldsPieces first pieces) (result : Result (Unit {0}) ClientError) (left : ℕ) (last : MachineState) where
   -- the device of the machine beside the last is that of the last

@@ -26,10 +26,11 @@ use Rattle.erst_client.proofs.RefusalLemmas.{copies}
 use Rattle.erst_commands.proofs.StartLemmas.{write_command, clear_command, dummy_command}
 use Rattle.erst_commands.proofs.ReadLemmas.{read_command}
 use Rattle.erst_shadow.specs.ShadowTables.{shadow_entries}
-use Rattle.erst_shadow.specs.ShadowMoves.{holding, HoldsPieces, range_with_record}
+use Rattle.erst_shadow.specs.ShadowMoves.{holding}
 use Rattle.erst_shadow.specs.ShadowSequences.{SequenceAsOwn}
 use Rattle.erst_shadow.specs.ShadowCommands.{pieces_in, shadow_client, AsOwn, ShadowChange, ShadowDummy, ShadowWriteAnswered, IsNoRecord, IsWritten, ShadowRead, ShadowReadAnswered, IsNotRead, IsNotCopied, IsCopied}
 use Rattle.erst_shadow.proofs.SequenceLemmas.{write_as_own, clear_as_own, read_as_own, dummy_as_own}
+use Rattle.erst_shadow.proofs.Terms.{HoldsPieces, range_with_record}
 
 no_fault : (fault : SpaceFault) → ◌≡◌ {A = Result (Unit {0}) SpaceFault} (Err fault) (Ok tt) → ⊥
 no_fault fault e = absurd (cc e)

@@ -17,12 +17,13 @@ use Rattle.erst_commands.proofs.EnoughLemmas.{HasSteps}
 use Rattle.erst_commands.proofs.LimitLemmas.{most-small}
 use Rattle.erst_commands.proofs.ThroughLemmas.{write_through as own_write_through, clear_through as own_clear_through, read_through as own_read_through, dummy_through as own_dummy_through, writes_through, reads_through}
 use Rattle.erst_shadow.specs.ShadowTables.{shadow_entries, pieces_of}
-use Rattle.erst_shadow.specs.ShadowMoves.{holding, range_with_record}
+use Rattle.erst_shadow.specs.ShadowMoves.{holding}
 use Rattle.erst_shadow.specs.ShadowSequences.{SequenceAsOwn}
 use Rattle.erst_shadow.specs.ShadowCommands.{pieces_in, shadow_client}
 use Rattle.erst_shadow.proofs.CommandLemmas.{holds_pieces, length_moved}
 use Rattle.erst_shadow.proofs.NeedLemmas.{own_paid}
 use Rattle.erst_shadow.proofs.SequenceLemmas.{write_as_own, clear_as_own, read_as_own, dummy_as_own}
+use Rattle.erst_shadow.proofs.Terms.{range_with_record}
 
 -- they are those of the most changes, of a read and of both moves
 pub enough-all : (state : MachineState) → 16 * pieces_in state + 22 + 2 * most_changes state.device.store.layout ≤ enough_steps (own_client state).timings

@@ -25,8 +25,8 @@ use Rattle.erst_interp.specs.Runs.{task_of}
 use Rattle.erst_interp.proofs.StraightLemmas.{whole_of, got_of, refused_of}
 use Rattle.erst_machine.specs.OwnTables.{register_of}
 use Rattle.erst_shadow.specs.MoveEntries.{MoveRegister, address_of, plain_entry, put_number, use_register}
-use Rattle.erst_shadow.specs.MoveSpaces.{ServesMove}
 use Rattle.erst_interp.proofs.StepLemmas.{same_register, StepBy, step_by}
+use Rattle.erst_shadow.proofs.Serving.{ServesMove}
 
 -- Whole registers
 

@@ -15,11 +15,12 @@ use Rattle.erst_interp.specs.Steps.{Halt, blocks}
 use Rattle.erst_interp.specs.Runs.{task_of}
 use Rattle.erst_machine.specs.OwnTables.{register_of}
 use Rattle.erst_shadow.specs.MoveEntries.{MoveRegister, Offset, Source, Target, Length, plain_entry, address_of, put_number, use_register, move_entries}
-use Rattle.erst_shadow.specs.MoveSpaces.{ServesMove, AreAddressable}
+use Rattle.erst_shadow.specs.MoveSpaces.{AreAddressable}
 use Rattle.erst_shadow.specs.MoveRuns.{move_then, move_steps}
 use Rattle.erst_interp.proofs.StepLemmas.{IsUnpaid, IsTooLong, IsNotRead, IsNotCopied, HaltBy, halt_by}
 use Rattle.erst_shadow.proofs.EntryLemmas.{Taken, of_source, of_target, of_var1, of_var2, register_at, no_fault, reads_number, reads_always, writes_always}
 use Rattle.erst_shadow.proofs.StageLemmas.{Stage, First, Second, Third, Fourth, Fifth, Sixth, Seventh, Head, Copied, Loaded, Added, Kept, Again, Done, cost, IsStage, stage_at, stage_in, stage_fits, rounds_hold}
+use Rattle.erst_shadow.proofs.Serving.{ServesMove}
 
 -- the budget had fewer steps than were needed
 pub record OutOfSteps {W : Type 0} (paid needs : ℕ) (old : W) (stop : RunStop) (left : ℕ) (new : W) : Type 0 where

@@ -1,3 +1,5 @@
+pub mod Serving
+pub mod Terms
 pub mod EntryLemmas
 pub mod StageLemmas
 pub mod HaltLemmas

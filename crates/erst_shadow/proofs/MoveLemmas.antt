@@ -7,7 +7,7 @@ use Rattle.apei_tables.specs.declared.widths.Width.TheVariants.{B64}
 use Rattle.apei_space.specs.declared.faults.SpaceFault.{SpaceFault}
 use Rattle.apei_space.specs.Calls.{Read, Write, Copy}
 use Rattle.erst_shadow.specs.MoveEntries.{MoveRegister, Offset, Source, Target, Length, address_of}
-use Rattle.erst_shadow.specs.MoveSpaces.{ServesMove, AreAddressable, after_rounds}
+use Rattle.erst_shadow.specs.MoveSpaces.{AreAddressable}
 use Rattle.erst_shadow.specs.PlainMoves.{ShareNone}
 use Rattle.erst_shadow.proofs.PlainLemmas.{part-beside, number-put, number-beside, place_in as place_behind, registers_differ}
 use Rattle.erst_machine.specs.declared.areas.Area.TheVariants.{Scratch, LogRange}
@@ -17,9 +17,10 @@ use Rattle.erst_machine.specs.MachineState.{MachineState, location_of}
 use Rattle.erst_machine.specs.Allowed.{Allows, number_read, write_of, NumberWritten, copy_of}
 use Rattle.erst_machine.proofs.PlaceLemmas.{area_found}
 use Rattle.erst_device.specs.Actions.{log_range_at}
-use Rattle.erst_shadow.specs.ShadowTables.{scratch_at}
-use Rattle.erst_shadow.specs.ShadowMoves.{holding, HoldsPieces, KeepsOthers, MovedIn, MovedOut}
+use Rattle.erst_shadow.specs.ShadowMoves.{holding}
 use Rattle.erst_machine.specs.Areas.{place_location}
+use Rattle.erst_shadow.proofs.Terms.{HoldsPieces, KeepsOthers, MovedIn, MovedOut, scratch_at}
+use Rattle.erst_shadow.proofs.Serving.{ServesMove, after_rounds}
 
 -- bytes that were changed twice within the same place
 SameOutside-then : (at n : ℕ) (old mid new : List ℕ) → SameOutside at n old mid → SameOutside at n mid new → SameOutside at n old new

@@ -16,8 +16,9 @@ use Rattle.erst_commands.specs.Changes.{IsErrorOf, OfFailed, OfNoSpace, OfNotFou
 use Rattle.erst_commands.specs.Reads.{ReadMade, IsRead, IsRefused as read_refused, IsFailed as read_failed, ReadCommand, Answers, StopsBehind, StopsBefore}
 use Rattle.erst_commands.proofs.ReadLemmas.{needs-read}
 use Rattle.erst_commands.proofs.StartLemmas.{needs-dummy}
-use Rattle.erst_shadow.specs.ShadowSequences.{IsCutShort, PaysMoves, PaysBoth, PaysPart}
+use Rattle.erst_shadow.specs.ShadowSequences.{PaysMoves, PaysBoth, PaysPart}
 use Rattle.erst_shadow.specs.ShadowCommands.{ShadowChange, ShadowDummy, ShadowRead}
+use Rattle.erst_shadow.proofs.Terms.{IsCutShort}
 
 -- An answer by which a command was not cut short
 

@@ -18,11 +18,12 @@ use Rattle.erst_entries.specs.declared.entries.Entry.{Entry}
 use Rattle.erst_interp.specs.declared.configurations.Configuration.{Configuration}
 use Rattle.erst_interp.specs.Runs.{Run}
 use Rattle.erst_shadow.specs.MoveEntries.{MoveRegister, Offset, Source, Target, Length, address_of, move_entries}
-use Rattle.erst_shadow.specs.MoveSpaces.{ServesMove, after_rounds}
-use Rattle.erst_shadow.specs.MoveRuns.{move_then, move_steps, standing, WalkFrom, Begun, Then, Finishes, Exhausted, Halts, MovesOn, StopsWithin}
+use Rattle.erst_shadow.specs.MoveRuns.{move_then, move_steps}
 use Rattle.erst_shadow.specs.PlainMoves.{ShareNone, Places, HoldsMove, HasCopied, MoveRun, CopiesOrStops, Copies, RunsShort}
 use Rattle.erst_shadow.proofs.RunLemmas.{moves_first}
 use Rattle.apei_space.proofs.Terms.{within}
+use Rattle.erst_shadow.proofs.Terms.{standing, WalkFrom, Begun, Then, Finishes, Exhausted, Halts, MovesOn, StopsWithin}
+use Rattle.erst_shadow.proofs.Serving.{ServesMove, after_rounds}
 
 -- Parts of bytes in which others are put
 

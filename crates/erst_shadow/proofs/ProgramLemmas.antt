@@ -23,18 +23,18 @@ use Rattle.erst_machine.specs.MachineState.{MachineState}
 use Rattle.erst_machine.specs.Allowed.{Allows}
 use Rattle.erst_machine.specs.OwnTables.{own_entries, act, answer}
 use Rattle.erst_shadow.specs.MoveEntries.{move_entries}
-use Rattle.erst_shadow.specs.MoveSpaces.{after_rounds}
-use Rattle.erst_shadow.specs.MoveRuns.{move_then, MovesOn, StopsWithin}
+use Rattle.erst_shadow.specs.MoveRuns.{move_then}
 use Rattle.erst_interp.proofs.StepLemmas.{same_register, halt_by}
 use Rattle.erst_interp.proofs.StraightLemmas.{whole_of, refused_of}
 use Rattle.erst_shadow.proofs.EntryLemmas.{no_fault}
 use Rattle.erst_shadow.proofs.RunLemmas.{moves_first}
 use Rattle.erst_shadow.proofs.BehindLemmas.{IsOfItsOwn, StoresValue, TakesRegister, runs_behind}
 use Rattle.erst_device.specs.Actions.{log_range_at}
-use Rattle.erst_shadow.specs.ShadowTables.{scratch_at, shadow_entries}
-use Rattle.erst_shadow.specs.ShadowMoves.{HoldsPieces, KeepsOthers, MovesThenExecutes, ExecutesMoved, StopsMovingIn, MovesThenTells, TellsMoved, StopsMovingOut}
+use Rattle.erst_shadow.specs.ShadowTables.{shadow_entries}
 use Rattle.erst_shadow.proofs.MoveLemmas.{below_in, below_out, space_in, moved_in, moved_out, first_comes, KeepsRange, space_out}
 use Rattle.erst_machine.proofs.Words.{action_at, value_at}
+use Rattle.erst_shadow.proofs.Terms.{MovesOn, StopsWithin, HoldsPieces, KeepsOthers, MovesThenExecutes, MovesThenTells, ExecutesMoved, StopsMovingIn, TellsMoved, StopsMovingOut, scratch_at}
+use Rattle.erst_shadow.proofs.Serving.{after_rounds}
 
 -- The device's registers refuse nothing
 

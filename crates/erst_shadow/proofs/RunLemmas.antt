@@ -11,10 +11,12 @@ use Rattle.erst_interp.specs.Configurations.{begin}
 use Rattle.erst_interp.specs.Steps.{Step, Halt}
 use Rattle.erst_interp.specs.Runs.{Walk, Begun as WalkBegun, Then as WalkThen, Run, NoProgram, Finishes as RunFinishes, Exhausted as RunExhausted, Halts as RunHalts, task_of}
 use Rattle.erst_shadow.specs.MoveEntries.{move_entries}
-use Rattle.erst_shadow.specs.MoveSpaces.{ServesMove, AreAddressable, after_rounds}
-use Rattle.erst_shadow.specs.MoveRuns.{move_then, move_steps, standing, WalkFrom, Begun, Then, Finishes, Exhausted, Halts, MovesFirst, MovesOn, StopsWithin}
+use Rattle.erst_shadow.specs.MoveSpaces.{AreAddressable}
+use Rattle.erst_shadow.specs.MoveRuns.{move_then, move_steps}
 use Rattle.erst_shadow.proofs.StageLemmas.{Stage, First, Second, Third, Fourth, Fifth, Sixth, Seventh, Head, Copied, Loaded, Added, Kept, Again, Done, cost, IsStage, stage_at, stage_in, stage_fits, stage_leads}
 use Rattle.erst_shadow.proofs.HaltLemmas.{stage_stops}
+use Rattle.erst_shadow.proofs.Terms.{standing, WalkFrom, MovesFirst, Begun, Then, Finishes, Exhausted, Halts, MovesOn, StopsWithin}
+use Rattle.erst_shadow.proofs.Serving.{ServesMove, after_rounds}
 
 is_done : (stage : Stage) → (stage ≡ Done) ⊎ (stage ≡ Done → ⊥)
 is_done First = inr (λ e. absurd (cc e))

@@ -20,12 +20,13 @@ use Rattle.erst_machine.specs.OwnTables.{own_entries}
 use Rattle.erst_shadow.specs.MoveRuns.{move_steps}
 use Rattle.erst_commands.specs.OwnPrograms.{with_value, takes_value, given_to, OwnRun, IsMade, StopsAtOnce, StopsBefore, StopsBehind, OwnProgramsRun}
 use Rattle.erst_shadow.specs.ShadowTables.{shadow_entries}
-use Rattle.erst_shadow.specs.ShadowMoves.{holding, AgreesElsewhere, HoldsPieces, MovesThenExecutes, ExecutesMoved, StopsMovingIn, MovesThenTells, TellsMoved, StopsMovingOut, range_with_record}
-use Rattle.erst_shadow.specs.ShadowSequences.{IsCutShort, PaysMoves, PaysBoth, PaysPart, ShowsRecord, SequenceAsOwn}
+use Rattle.erst_shadow.specs.ShadowMoves.{holding, AgreesElsewhere}
+use Rattle.erst_shadow.specs.ShadowSequences.{PaysMoves, PaysBoth, PaysPart, ShowsRecord, SequenceAsOwn}
 use Rattle.erst_shadow.proofs.ProgramLemmas.{IsCommon, performs_own, moves_then_executes, moves_then_tells}
 use Rattle.erst_shadow.proofs.OwnRunLemmas.{IsOfSequence, run_of_own}
 use Rattle.erst_shadow.proofs.QuietLemmas.{IsQuiet, runs_beside, with_other_steps}
 use Rattle.erst_client.proofs.Terms.{closed, end_steps}
+use Rattle.erst_shadow.proofs.Terms.{HoldsPieces, range_with_record, MovesThenExecutes, MovesThenTells, ExecutesMoved, StopsMovingIn, TellsMoved, StopsMovingOut, IsCutShort}
 
 -- a request before EXECUTE_OPERATION: the machine's own program, which leaves the log range alone
 abbrev pub IsBefore : Request → Type 0

@@ -11,9 +11,11 @@ use Rattle.erst_interp.specs.Configurations.{next}
 use Rattle.erst_interp.specs.Steps.{Step}
 use Rattle.erst_interp.specs.Runs.{task_of}
 use Rattle.erst_shadow.specs.MoveEntries.{Offset, Source, Target, Length, move_entries}
-use Rattle.erst_shadow.specs.MoveSpaces.{ServesMove, AreAddressable, prepared, after_rounds}
-use Rattle.erst_shadow.specs.MoveRuns.{move_then, standing}
+use Rattle.erst_shadow.specs.MoveSpaces.{AreAddressable}
+use Rattle.erst_shadow.specs.MoveRuns.{move_then}
 use Rattle.erst_shadow.proofs.EntryLemmas.{of_source, of_target, of_var1, of_var2, HasDone, puts_number, stores_var1, takes, adds_both, goes_to, skips_or_goes, copies_piece}
+use Rattle.erst_shadow.proofs.Terms.{standing}
+use Rattle.erst_shadow.proofs.Serving.{ServesMove, prepared, after_rounds}
 
 -- where a run stands: before one of the first seven entries, at the head of round i, behind each of its entries, and behind the move
 pub data Stage : Type 0 where

@@ -16,7 +16,8 @@ use Rattle.erst_device.specs.Actions.{log_range_at}
 use Rattle.erst_machine.specs.OwnTables.{own_header, tell, told_actions, register_of}
 use Rattle.erst_machine.proofs.TableLemmas.{entry_fits, act_fits, give_fits, is_one_fits, answer_fits, tell_fits}
 use Rattle.erst_shadow.specs.MoveEntries.{MoveRegister, Offset, Source, Target, Length, address_of, put_number, use_register, move_entries}
-use Rattle.erst_shadow.specs.ShadowTables.{scratch_at, entries_before, entries_between, entries_behind, shadow_entries, shadow_count, table_with, shadow_checksum, shadow_erst}
+use Rattle.erst_shadow.specs.ShadowTables.{entries_before, entries_between, entries_behind, shadow_entries, shadow_count, table_with, shadow_checksum, shadow_erst}
+use Rattle.erst_shadow.proofs.Terms.{scratch_at}
 
 -- Entries fit their fields
 

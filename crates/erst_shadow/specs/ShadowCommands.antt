@@ -9,16 +9,17 @@ use Rattle.erst_client.specs.declared.requests.Request.{Request}
 use Rattle.erst_client.specs.Sequences.{write_requests, dummy_requests}
 use Rattle.erst_client.specs.Commands.{ClientState, write_refusal, copy_refusal}
 use Rattle.erst_device.specs.Timings.{timings_of}
-use Rattle.erst_machine.specs.Areas.{scratch_len}
+use Rattle.erst_machine.specs.Areas.{scratch_len, base_of}
 use Rattle.erst_machine.specs.MachineState.{MachineState, reach_in}
 use Rattle.erst_commands.specs.OwnPrograms.{with_value}
 use Rattle.erst_commands.specs.Attached.{own_client}
 use Rattle.erst_commands.specs.Changes.{ChangeCommand, DummyCommand}
 use Rattle.erst_commands.specs.Reads.{ReadCommand}
 use Rattle.erst_commands.specs.Writes.{marked, id_of}
-use Rattle.erst_shadow.specs.ShadowTables.{scratch_at, pieces_of, shadow_erst}
+use Rattle.erst_shadow.specs.ShadowTables.{pieces_of, shadow_erst}
 use Rattle.erst_shadow.specs.ShadowMoves.{holding, AgreesElsewhere}
 use Rattle.erst_shadow.specs.ShadowSequences.{PaysMoves, ShowsRecord}
+use Rattle.erst_machine.specs.declared.areas.Area.TheVariants.{Scratch}
 
 -- how many pieces the longest record has over a machine
 abbrev pub pieces_in : MachineState → ℕ
@@ -28,7 +29,7 @@ pieces_in state = pieces_of (reach_in state.device)
 abbrev pub shadow_client : MachineState → ClientState
 shadow_client state = record {
   table = shadow_erst (pieces_in state);
-  address = scratch_at;
+  address = base_of Scratch;
   range = 128 * pieces_in state;
   timings = (own_client state).timings;
 }

@@ -8,7 +8,7 @@ use Rattle.erst_commands.specs.Operations.{ClientOperation, WriteOperation, Read
 use Rattle.erst_commands.specs.Runs.{TableOver, CallFrom}
 use Rattle.erst_shadow.specs.ShadowTables.{shadow_entries}
 use Rattle.erst_shadow.specs.ShadowSequences.{SequenceAsOwn}
-use Rattle.erst_shadow.specs.ShadowCommands.{pieces_in, ShadowChange, ShadowDummy, ShadowRead, ShadowWriteAnswered, ShadowReadAnswered}
+use Rattle.erst_shadow.specs.ShadowCommands.{pieces_in, ShadowChange, ShadowDummy, ShadowRead}
 
 -- the table with so many pieces, and that of a machine. `tells` says whether the flash tells its content
 abbrev pub table_of : (tells : Type 0) (pieces : ℕ) → TableOver MachineState
@@ -31,13 +31,6 @@ ReadsAsOwn {first = first} pieces id run = ShadowRead pieces first run.last id r
 
 abbrev pub ChangesNothingAsOwn : {first : MachineState} → (pieces : ℕ) → CallFrom first (Unit {0}) → Type 0
 ChangesNothingAsOwn {first = first} pieces run = ShadowDummy pieces first run.last run.budget run.answer run.left
-
--- a client's write, and its read
-abbrev pub WritesByPieces : {first : MachineState} → (bytes : List ℕ) → CallFrom first (Unit {0}) → Type 0
-WritesByPieces {first = first} bytes run = ShadowWriteAnswered bytes run.budget first run.answer run.left run.last
-
-abbrev pub CopiesByPieces : {first : MachineState} → (id : ℕ) (out after : List ℕ) → CallFrom first ℕ → Type 0
-CopiesByPieces {first = first} id out after run = ShadowReadAnswered id out run.budget first run.answer after run.left run.last
 
 -- the steps that an operation needs: 16 a piece, 18, and 2 for each check whether it is busy; a read 2 more
 abbrev pub shadow_steps : (pieces : ℕ) → ClientOperation → (checks : ℕ) → ℕ

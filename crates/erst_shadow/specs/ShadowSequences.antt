@@ -1,6 +1,6 @@
 -- A sequence by this table is one by the machine's own table, from a machine that already holds the record in its log range.
 use Rattle.std.specs.Prelude.{◌≡◌, ℕ, ◌+◌, ◌*◌, ◌≤◌, List, length, Option, Result, Err, OnOk}
-use Rattle.base_model.specs.Bytes.{part}
+use Rattle.base_model.specs.Bytes.{part, put_at}
 use Rattle.erst_client.specs.declared.errors.ClientError.{ClientError}
 use Rattle.erst_client.specs.declared.errors.ClientError.TheVariants.{Stopped, Late}
 use Rattle.erst_client.specs.declared.requests.Request.{Request}
@@ -10,18 +10,15 @@ use Rattle.erst_machine.specs.MachineState.{MachineState}
 use Rattle.erst_machine.specs.Allowed.{Allows}
 use Rattle.erst_machine.specs.OwnTables.{own_entries}
 use Rattle.erst_shadow.specs.MoveRuns.{move_steps}
-use Rattle.erst_shadow.specs.ShadowMoves.{holding, AgreesElsewhere, range_with_record}
+use Rattle.erst_shadow.specs.ShadowMoves.{holding, AgreesElsewhere}
 
--- a sequence was cut short: a program stopped, or the firmware was busy for too long
-abbrev pub IsCutShort : ClientError → Type 0
-IsCutShort (Stopped stop) = Unit {0}
-IsCutShort (Late waited) = Unit {0}
-IsCutShort error = ⊥
-
--- the steps of the two moves come to those of the machine's own programs. A sequence that was cut short has made at most both moves
+-- the steps of the two moves come to those of the machine's own programs. A sequence that was cut short, since a program stopped or the
+-- firmware was busy for too long, has made at most both moves
 pub data PaysMoves (pieces budget : ℕ) : Result (Unit {0}) ClientError → (left own_budget own_left : ℕ) → Type 0 where
   PaysBoth : (result : Result (Unit {0}) ClientError) (left own_budget : ℕ) → own_budget + 2 * move_steps pieces ≡ budget → PaysMoves pieces budget result left own_budget left
-  PaysPart : (error : ClientError) (left own_budget own_left : ℕ) → IsCutShort error → own_budget ≤ budget → budget ≤ own_budget + 2 * move_steps pieces
+  PaysPart : (error : ClientError) (left own_budget own_left : ℕ)
+      → (elim error as (λ _. Type 0) [ Stopped stop ↦ Unit {0} | Late waited ↦ Unit {0} | other ↦ ⊥ ])
+      → own_budget ≤ budget → budget ≤ own_budget + 2 * move_steps pieces
       → PaysMoves pieces budget (Err error) left own_budget own_left
 
 -- the log range of a machine is that of another, and its scratch memory begins with what stands there
@@ -38,7 +35,9 @@ pub record SequenceAsOwn (tells : Type 0) (pieces : ℕ) (timings : Option (ℕ 
   pub own_budget : ℕ
   pub own_left : ℕ
   pub own_last : MachineState
-  pub sequence : Sequence (Allows tells) own_entries timings requests own_budget (holding (range_with_record pieces first) scratch first) result own_left own_last
+  pub sequence :
+      Sequence (Allows tells) own_entries timings requests own_budget
+      (holding (put_at first.memory.range 0 (part first.memory.scratch 0 (128 * pieces))) scratch first) result own_left own_last
   pub last_is : AgreesElsewhere last own_last
   pub paid : PaysMoves pieces budget result left own_budget own_left
   pub shown : OnOk result (ShowsRecord pieces last own_last)

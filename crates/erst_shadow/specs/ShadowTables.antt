@@ -10,10 +10,6 @@ use Rattle.erst_machine.specs.declared.areas.Area.TheVariants.{Scratch}
 use Rattle.erst_machine.specs.Areas.{base_of}
 use Rattle.erst_machine.specs.OwnTables.{own_header, act, give, is_one, answer, tell, told_actions}
 
--- where the scratch memory begins
-abbrev pub scratch_at : ℕ
-scratch_at = base_of Scratch
-
 -- how many pieces of 128 bytes the longest record has: as many as the longest of the machine, and as fit below the registers of a move
 abbrev pub pieces_of : (reach : ℕ) → ℕ
 pieces_of reach = min 31 (reach / 128)
@@ -35,7 +31,7 @@ entries_behind size =
     ∷ give SetRecordIdentifier ∷ act SetRecordIdentifier
     ∷ act GetRecordCount ∷ answer GetRecordCount (2 ^ 32 - 1)
     ∷ act BeginDummyWriteOperation
-    ∷ put_number GetErrorLogAddressRange Source scratch_at ∷ use_register GetErrorLogAddressRange 0x0 Source
+    ∷ put_number GetErrorLogAddressRange Source (base_of Scratch) ∷ use_register GetErrorLogAddressRange 0x0 Source
     ∷ put_number GetErrorLogAddressRangeLength Length size ∷ use_register GetErrorLogAddressRangeLength 0x0 Length
     ∷ put_number GetErrorLogAddressRangeAttributes Offset 0 ∷ use_register GetErrorLogAddressRangeAttributes 0x0 Offset
     ∷ []
@@ -44,8 +40,8 @@ entries_behind size =
 -- GET_COMMAND_STATUS first moves the one that stands there back
 unfoldable pub shadow_entries : (pieces : ℕ) → List Entry
 shadow_entries pieces =
-    entries_before ++ (move_entries ExecuteOperation scratch_at log_range_at (128 * pieces)
-    ++ (entries_between ++ (move_entries GetCommandStatus log_range_at scratch_at (128 * pieces)
+    entries_before ++ (move_entries ExecuteOperation (base_of Scratch) log_range_at (128 * pieces)
+    ++ (entries_between ++ (move_entries GetCommandStatus log_range_at (base_of Scratch) (128 * pieces)
     ++ (entries_behind (128 * pieces) ++ tell told_actions))))
 
 abbrev pub shadow_count : ℕ

@@ -14,8 +14,8 @@ use Rattle.erst_commands.specs.Causes.{GoesThrough}
 use Rattle.erst_commands.specs.Operations.{ClientOperation, ReadOperation, ClearOperation, DummyWriteOperation, requests_of}
 use Rattle.erst_commands.specs.Runs.{RunFrom, CallFrom, IsAttaching, IsSequence, IsWrite, IsRead}
 use Rattle.erst_shadow.specs.ShadowTables.{shadow_erst}
-use Rattle.erst_shadow.specs.ShadowCommands.{pieces_in, shadow_client, AttachesShadow}
-use Rattle.erst_shadow.specs.ShadowRuns.{table_in, IsOwnSequence, ChangesAsOwn, ReadsAsOwn, ChangesNothingAsOwn, WritesByPieces, CopiesByPieces, shadow_steps}
+use Rattle.erst_shadow.specs.ShadowCommands.{pieces_in, shadow_client, AttachesShadow, ShadowWriteAnswered, ShadowReadAnswered}
+use Rattle.erst_shadow.specs.ShadowRuns.{table_in, IsOwnSequence, ChangesAsOwn, ReadsAsOwn, ChangesNothingAsOwn, shadow_steps}
 
 -- attaching to the table finds its client, with eight steps or more
 abbrev pub AttachingFindsShadowClient : (tells : Type 0) → MachineState → Type 0
@@ -43,12 +43,13 @@ EachDummyWriteIsAsOwn tells first =
 -- so are a client's write of any bytes, and its read into any buffer, but for records that are longer than the pieces
 abbrev pub ClientWritesByPieces : (tells : Type 0) → MachineState → Type 0
 ClientWritesByPieces tells first =
-    (bytes : List ℕ) (run : CallFrom first (Unit {0})) → IsWrite (table_in tells first) (shadow_client first) bytes run → WritesByPieces bytes run
+    (bytes : List ℕ) (run : CallFrom first (Unit {0})) → IsWrite (table_in tells first) (shadow_client first) bytes run
+    → ShadowWriteAnswered bytes run.budget first run.answer run.left run.last
 
 abbrev pub ClientReadsByPieces : (tells : Type 0) → MachineState → Type 0
 ClientReadsByPieces tells first =
     (id : ℕ) → id < 2 ^ 64 → (out after : List ℕ) (run : CallFrom first ℕ) → IsRead (table_in tells first) (shadow_client first) id out after run
-    → CopiesByPieces id out after run
+    → ShadowReadAnswered id out run.budget first run.answer after run.left run.last
 
 -- power lost at any flash step of a write or clear leaves the records from before it or after it, and of a read it leaves the records;
 -- a dummy write gives up what the store had begun

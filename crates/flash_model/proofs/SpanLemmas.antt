@@ -10,7 +10,10 @@ use Rattle.base_model.specs.Flash.{IsErased}
 use Rattle.base_model.proofs.ErasedLemmas.{slots_apart, IsErased-before, IsErased-after, IsErased-append, IsErased-within}
 use Rattle.flash_model.specs.declared.spans.Span.{Span}
 use Rattle.flash_model.specs.Content.{IsErasedAround}
-use Rattle.flash_model.specs.Spans.{IsErasedBut, AreErasedBut, no_bytes}
+use Rattle.flash_model.specs.Spans.{IsErasedBut, AreErasedBut}
+
+abbrev pub no_bytes : Span
+no_bytes = record { from = 0; to = 0 }
 
 pub rest_stays : (old new : List ℕ) (at : ℕ) (bytes : List ℕ) → at + length bytes ≤ length old → new ≡ put_at old at bytes → SameOutside at (length bytes) old new
 rest_stays old new at bytes within put = rw put (SameOutside-put_at old at bytes within)

@@ -34,10 +34,6 @@ first_changes journal zero image = []
 first_changes journal (suc n) image =
     first_changes journal n image ++ change_of (noted_at journal n) (undone journal n image) ∷ []
 
--- what a flash with this journal tells after some steps, by its image
-abbrev pub told_by : List Noted → ℕ → List ℕ → Told
-told_by journal steps image = record { past = first_changes journal steps image; image = image }
-
 -- each change in the journal is one of the first n
 abbrev pub AreBelow : ℕ → List Noted → Type 0
 AreBelow n [] = Unit {0}

@@ -101,10 +101,6 @@ abbrev pub faults_after : Option Tear → ℕ → ℕ
 faults_after None faults = faults
 faults_after (Some tear) faults = next_count faults
 
--- after a change that can't be counted: one fault more
-abbrev pub after_uncounted : Simulation → Simulation
-after_uncounted flash = record flash { faults = next_count flash.faults; unpowered = unpowered_after (state_of flash) }
-
 -- after a change without power: one change of nothing and one fault more
 abbrev pub after_unpowered : Simulation → Simulation
 after_unpowered flash = record flash {
@@ -132,7 +128,7 @@ after_reaching tear flash at bytes = record flash {
 
 -- what a change of a range to these bytes leaves, by its fate
 abbrev pub MayFollow : Fate → Simulation → ℕ → List ℕ → Simulation → Type 0
-MayFollow Uncounted old at bytes new = new ≡ after_uncounted old
+MayFollow Uncounted old at bytes new = new ≡ record old { faults = next_count old.faults; unpowered = unpowered_after (state_of old) }
 MayFollow Unpowered old at bytes new = new ≡ after_unpowered old
 MayFollow (Reaches tear) old at bytes new = (new ≡ after_reaching tear old at bytes) ⊎ (new ≡ after_starved old)
 

@@ -10,9 +10,6 @@ pub record IsErasedBut (span : Span) (sector : ℕ) (image : List ℕ) (place : 
   pub before : IsErased image place span.from
   pub behind : IsErased image (place + span.to) (sector - span.to)
 
-abbrev pub no_bytes : Span
-no_bytes = record { from = 0; to = 0 }
-
 -- and so of the first sectors of an image
 abbrev pub AreErasedBut : List Span → (sector : ℕ) → (image : List ℕ) → Type 0
-AreErasedBut spans sector image = (s : ℕ) → s < length spans → IsErasedBut (slice_index_or spans s no_bytes) sector image (s * sector)
+AreErasedBut spans sector image = (s : ℕ) → s < length spans → IsErasedBut (slice_index_or spans s (record { from = 0; to = 0 })) sector image (s * sector)

@@ -39,14 +39,17 @@ pub struct SimFlash {
 
 impl Model for SimFlash {
     ghost use Rattle.std.specs.Prelude.{◌≤◌, ◌*◌, length};
-    ghost use Rattle.flash_model.specs.Journal.{told_by, AreBelow};
+    ghost use Rattle.flash_model.specs.Journal.{first_changes, AreBelow};
     ghost use Rattle.flash_model.specs.Spans.{AreErasedBut};
     ghost use Rattle.flash_model.specs.Simulation.{Simulation};
 
     ghost Value = { Simulation };
 
     ghost view = { λ flash. record {
-      told = told_by flash.journal flash.steps flash.image.items;
+      told = record {
+        past = first_changes flash.journal flash.steps flash.image.items;
+        image = flash.image.items;
+      };
       sector_size = flash.sector;
       power = flash.power;
       failing = flash.failing.items;

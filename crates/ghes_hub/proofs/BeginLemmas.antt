@@ -14,7 +14,7 @@ use Rattle.ghes_hub.specs.declared.layouts.Layout.TheVariants.{Acknowledged, Pla
 use Rattle.ghes_hub.specs.declared.source.Source.{Source}
 use Rattle.ghes_hub.specs.Layouts.{layout_kind, layout_windows, HasLayout, layout_window, AreLaidOut, IsBegun, AreBegun}
 use Rattle.ghes_hub.specs.Places.{IsOff, AreClear}
-use Rattle.ghes_hub.specs.OneSource.{layout_in, windows_of, SourceStands}
+use Rattle.ghes_hub.specs.OneSource.{layout_in, SourceStands}
 use Rattle.ghes_hub.specs.SourcesState.{AreServed}
 use Rattle.ghes_hub.proofs.PlainMemory.{plain_windows_kept}
 use Rattle.ghes_hub.proofs.SourceLemmas.{source_kept, same_in_map}
@@ -48,7 +48,7 @@ take_next {X} (y ∷ ys) zero x is = let e : y ≡ x = cc in ap (λ (z : X). z �
 take_next {X} (y ∷ ys) (suc n) x is = ap (λ (zs : List X). y ∷ zs) (take_next ys n x is)
 
 pub one_begun : (layouts : List Layout) (first ram new : RamState) (list : List Source) (layout : Layout) (handover : Source) → AreLaidOut layouts first → slice_get layouts (length list) ≡ Some layout →
-    SourceStands handover new (started (layout_window layout ram)) → layout_in handover ≡ layout → layout_kind (layout_in handover) ≡ layout_kind layout → windows_of handover ≡ layout_windows layout → SameWhere (IsOff (layout_windows layout)) ram new →
+    SourceStands handover new (started (layout_window layout ram)) → layout_in handover ≡ layout → layout_kind (layout_in handover) ≡ layout_kind layout → layout_windows (layout_in handover) ≡ layout_windows layout → SameWhere (IsOff (layout_windows layout)) ram new →
     AreBegun layouts first ram list → AreBegun layouts first new (list ++ handover ∷ [])
 one_begun layouts first ram new list layout handover laid here stands lies kind windows s all = record {
   so_far =
@@ -96,5 +96,5 @@ begun_served layouts first ram list laid all = record {
       let a = all.begun i p is_p in
       let b = all.begun j q is_q in
       let clear = laid.apart i j a.layout b.layout other a.is b.is in
-      subst (λ (ws : List Window). AreClear ws (windows_of q)) (sym a.windows) (subst (AreClear (layout_windows a.layout)) (sym b.windows) clear);
+      subst (λ (ws : List Window). AreClear ws (layout_windows (layout_in q))) (sym a.windows) (subst (AreClear (layout_windows a.layout)) (sym b.windows) clear);
 }

@@ -5,8 +5,9 @@ use Rattle.std.proofs.lemmas.Bool.{cases_eq, eq-eqb, ne_eqb}
 use Rattle.std.proofs.lemmas.List.{length-set}
 use Rattle.std.proofs.lemmas.Option.{slice_get_within, slice_get_read}
 use Rattle.ghes_hub.specs.Chains.{in_order}
-use Rattle.ghes_hub.specs.Deals.{dealt_to, item_lists, AreDealt, AreEmpty}
+use Rattle.ghes_hub.specs.Deals.{dealt_to, AreDealt, AreEmpty}
 use Rattle.ghes_hub.proofs.SourceLemmas.{slice_get-same, slice_get-other}
+use Rattle.std.specs.Prelude.{map}
 
 pub dealt_here : {L : Type 0} (n i k : ℕ) (x : L) (xs : List L) → k % n ≡ i → dealt_to n i k (x ∷ xs) ≡ x ∷ dealt_to n i (k + 1) xs
 dealt_here {L} n i k x xs e = ap (λ (b : Bool). cond {A = List L} b (x ∷ dealt_to n i (k + 1) xs) (dealt_to n i (k + 1) xs)) (eq-eqb (k % n) i e)
@@ -23,25 +24,25 @@ dealt_few {L} n i k (x ∷ xs) = elim (cases_eq (k % n) i) [
 
 -- one more item in one of the lists
 one_longer : {X : Type 0} (lists : List (Vec X Global)) (i : ℕ) (old new : Vec X Global) (x : X) → slice_get lists i ≡ Some old → new.items ≡ old.items ++ x ∷ [] →
-    length (in_order (item_lists (set lists i new))) ≡ length (in_order (item_lists lists)) + 1
+    length (in_order (map (λ list. list.items) (set lists i new))) ≡ length (in_order (map (λ list. list.items) lists)) + 1
 one_longer [] i old new x is more = absurd (let w = slice_get_within [] i old is in omega (arith, w))
 one_longer {X} (list ∷ lists) zero old new x is more =
     let e : list ≡ old = (let both : Some list ≡ Some old = is in cc) in
-    let a = length-append new.items (in_order (item_lists lists)) in
-    let b = length-append list.items (in_order (item_lists lists)) in
+    let a = length-append new.items (in_order (map (λ list. list.items) lists)) in
+    let b = length-append list.items (in_order (map (λ list. list.items) lists)) in
     let m = ap length more ∙ length-append old.items (x ∷ []) in
     let o : length list.items ≡ length old.items = ap (λ (v : Vec X Global). length v.items) e in
     omega (arith, a, b, m, o)
 one_longer (list ∷ lists) (suc i) old new x is more =
-    let a = length-append list.items (in_order (item_lists (set lists i new))) in
-    let b = length-append list.items (in_order (item_lists lists)) in
+    let a = length-append list.items (in_order (map (λ list. list.items) (set lists i new))) in
+    let b = length-append list.items (in_order (map (λ list. list.items) lists)) in
     let rest = one_longer lists i old new x is more in
     omega (arith, a, b, rest)
 
-none_in : {X : Type 0} (lists : List (Vec X Global)) → ((i : ℕ) (list : Vec X Global) → slice_get lists i ≡ Some list → list.items ≡ []) → length (in_order (item_lists lists)) ≡ 0
+none_in : {X : Type 0} (lists : List (Vec X Global)) → ((i : ℕ) (list : Vec X Global) → slice_get lists i ≡ Some list → list.items ≡ []) → length (in_order (map (λ list. list.items) lists)) ≡ 0
 none_in [] each = refl
 none_in (list ∷ lists) each =
-    let a = length-append list.items (in_order (item_lists lists)) in
+    let a = length-append list.items (in_order (map (λ list. list.items) lists)) in
     let e = ap length (each 0 list refl) in
     let rest = none_in lists (λ i l is. each (suc i) l is) in
     omega (arith, a, e, rest)

@@ -9,7 +9,8 @@ use Rattle.apei_space.specs.Windows.{EndsBelow, IsApart, IsApartFrom, AreApart, 
 use Rattle.apei_space.specs.Mapped.{Holds, IsMapped, AreDisjoint}
 use Rattle.ghes_ack.proofs.PlacedLemmas.{disjoint_sym}
 use Rattle.ghes_hub.specs.Places.{IsOff}
-use Rattle.ghes_hub.specs.Joins.{follows_at, follows, both, joins, AreFree, MayJoin, AreJoined}
+use Rattle.ghes_hub.specs.Joins.{follows_at, follows, joins, AreFree, MayJoin}
+use Rattle.ghes_hub.proofs.Terms.{AreJoined}
 
 -- what a test of one window behind another says
 abbrev Adjoins : Place → ℕ → Place → Type 0
@@ -86,6 +87,10 @@ mixed (Memory a) n (Memory b) m (Io w) k e h = tt
 mixed (Io a) n (Io b) m (Memory w) k e h = tt
 mixed (Memory a) n (Io b) m r k e h = absurd e
 mixed (Io a) n (Memory b) m r k e h = absurd e
+
+-- two windows as one
+abbrev both : Window → Window → Window
+both first second = record { place = first.place; len = first.len + second.len }
 
 off_before : (window new : Window) (windows : List Window) → Adjoins window.place window.len new.place → IsApartFrom window windows → IsOff windows new.place new.len → IsOff windows (both window new).place (both window new).len
 off_before window new [] e h g = tt

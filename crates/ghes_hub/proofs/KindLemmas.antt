@@ -4,12 +4,13 @@ use Rattle.ghes_ack.specs.declared.events.Side.{Side}
 use Rattle.ghes_ack.specs.declared.events.Side.TheVariants.{Reader}
 use Rattle.ghes_ack.specs.declared.events.Event.{Event}
 use Rattle.ghes_ack.specs.declared.events.Event.TheVariants.{Took, Ack}
-use Rattle.ghes_ack.proofs.Terms.{Turned}
 use Rattle.ghes_ack.specs.Machine.{Machine, Situation, Filling, Published, Reading, Cleared, Acknowledged, turned, reader_turn, IsState}
+use Rattle.ghes_ack.proofs.Terms.{Turned}
 use Rattle.ghes_ack.specs.Schedules.{Step, Submit, Turn, Watched, watched, after, run, AreFitting, submissions}
 use Rattle.ghes_ack.proofs.StepLemmas.{turn_keeps}
 use Rattle.ghes_ack.proofs.ScheduleLemmas.{watched_machine}
-use Rattle.ghes_hub.specs.Kinds.{Kind, ByRegister, ByStatus, settled, turned_by}
+use Rattle.ghes_hub.specs.Kinds.{Kind, ByRegister, ByStatus, turned_by}
+use Rattle.ghes_hub.proofs.Terms.{settled}
 use Rattle.ghes_hub.specs.Runs.{after_by, run_by}
 
 -- the turn of the reader that a clearing stands for beside its own

@@ -1,3 +1,4 @@
+pub mod Terms
 pub mod KindLemmas
 pub mod RunLemmas
 pub mod SourceLemmas

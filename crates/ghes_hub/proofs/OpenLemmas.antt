@@ -12,7 +12,7 @@ use Rattle.apei_space.specs.declared.windows.Window.{Window}
 use Rattle.apei_space.specs.Windows.{EndsBelow, address_of}
 use Rattle.apei_space.specs.Mapped.{AreDisjoint}
 use Rattle.hest_sources.specs.declared.sources.HestSource.{HestSource}
-use Rattle.ghes_hub.specs.Deals.{dealt_to, item_lists, AreDealt}
+use Rattle.ghes_hub.specs.Deals.{dealt_to, AreDealt}
 use Rattle.ghes_hub.specs.Joins.{AreFree}
 use Rattle.ghes_hub.specs.Opens.{IsReady, IsOpened, opened_source}
 use Rattle.ghes_hub.specs.Places.{IsOff}
@@ -22,13 +22,14 @@ use Rattle.ghes_hub.specs.Hubs.{HubState, Call, DoAll, Serves}
 use Rattle.ghes_hub.proofs.HubLemmas.{serves}
 use Rattle.ghes_hub.specs.Refusals.{generics, overlap_at, overlaps, clashes}
 use Rattle.ghes_hub.specs.SourcesState.{SourcesState}
+use Rattle.std.specs.Prelude.{map}
 
 some_at : {X : Type 0} (xs : List X) (i : ℕ) → i < length xs → (x : X) × (slice_get xs i ≡ Some x)
 some_at [] i within = absurd (omega (arith, within))
 some_at (x ∷ xs) zero within = (x, refl)
 some_at (x ∷ xs) (suc i) within = some_at xs i (omega (arith, within))
 
-pub opened : {L : Type 0} (sources : List HestSource) (s new : SourcesState) (all : List L) (n k : ℕ) (lists : List (Vec L Global)) (chains : List (List L)) → IsReady sources s → new ≡ s → n ≡ length s.list → AreDealt n k all [] lists → chains ≡ item_lists lists →
+pub opened : {L : Type 0} (sources : List HestSource) (s new : SourcesState) (all : List L) (n k : ℕ) (lists : List (Vec L Global)) (chains : List (List L)) → IsReady sources s → new ≡ s → n ≡ length s.list → AreDealt n k all [] lists → chains ≡ map (λ list. list.items) lists →
     IsOpened sources all (record { sources = new; chains = chains })
 opened {L} sources s new all n k lists chains ready same count dealt chains_are = subst (λ (x : SourcesState). IsOpened sources all (record { sources = x; chains = chains })) (sym same) (record {
   ready = ready;

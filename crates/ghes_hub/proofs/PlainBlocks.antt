@@ -11,10 +11,12 @@ use Rattle.ghes_ack.specs.Machine.{Machine, Filling, Published, Reading, Acknowl
 use Rattle.ghes_hub.specs.declared.plain.map.PlainMap.{PlainMap}
 use Rattle.ghes_ack.specs.declared.window_blocks.Blocks.{Blocks}
 use Rattle.ghes_ack.specs.WindowQueues.{TakesOut, HoldsNone, count_of}
-use Rattle.ghes_ack.specs.Windows.{block_bytes, HasAddressed}
-use Rattle.ghes_hub.specs.Plain.{plain_window_of, with_plain_window, PlainState, PlainStands}
+use Rattle.ghes_ack.specs.Windows.{block_bytes, HasAddressed, with_block}
+use Rattle.ghes_hub.specs.Plain.{PlainState, PlainStands}
+use Rattle.ghes_hub.proofs.Terms.{plain_window_of}
 use Rattle.ghes_ack.specs.Handovers.{over}
-use Rattle.ghes_hub.specs.PlainSides.{Turns, Stands, with_next_piece, ReaderMakes, Copies, Takes, Clears}
+use Rattle.ghes_hub.specs.PlainSides.{Turns, with_next_piece, ReaderMakes, Copies, Takes, Clears}
+use Rattle.ghes_hub.proofs.Terms.{Stands}
 use Rattle.ghes_ack.specs.Sides.{state_of, in_work, IsCopiedSoFar}
 use Rattle.ghes_ack.proofs.SideLemmas.{in_hand, none_in_hand}
 use Rattle.ghes_hub.proofs.PlainTurns.{next_fits, fills, publishes, frees, idles, finds}
@@ -25,27 +27,27 @@ fits_in_hand b t block ram out (m, st) =
     (st.windows, next_fits (state_of Filling b) ram m block.items (map (λ v. v.items) t.waiting.items) out.held st)
 
 pub fills_hand : (b t : Blocks PlainMap) (block : Vec ℕ Global) (bytes : List ℕ) (ram new : RamState) → TakesOut plain_window_of b t block → bytes ≡ block.items → 64 * t.filled < length block.items →
-    new ≡ with_plain_window t.map ram (with_piece (block_bytes t.map.window ram) bytes t.filled) → (m : Machine) → PlainStands (state_of Filling b) ram m →
+    new ≡ with_block t.map.window ram (with_piece (block_bytes t.map.window ram) bytes t.filled) → (m : Machine) → PlainStands (state_of Filling b) ram m →
     Turns Firmware Fill (over (state_of Filling b) ram) (over (state_of Filling (record t { at_work = Some block; filled = t.filled + 1 })) new) m
 fills_hand b t block bytes ram new out is more memory m st =
     let h = state_of Filling b in
     let f = out.same.filled in
-    let memory_b : new ≡ with_plain_window b.map ram (with_piece (block_bytes b.map.window ram) block.items b.filled) =
-    memory ∙ ap (λ (x : List ℕ). with_plain_window t.map ram (with_piece (block_bytes t.map.window ram) x t.filled)) is
-    ∙ ap (λ (k : ℕ). with_plain_window t.map ram (with_piece (block_bytes t.map.window ram) block.items k)) f
-    ∙ ap (λ (at : PlainMap). with_plain_window at ram (with_piece (block_bytes at.window ram) block.items b.filled)) out.same.map in
+    let memory_b : new ≡ with_block b.map.window ram (with_piece (block_bytes b.map.window ram) block.items b.filled) =
+    memory ∙ ap (λ (x : List ℕ). with_block t.map.window ram (with_piece (block_bytes t.map.window ram) x t.filled)) is
+    ∙ ap (λ (k : ℕ). with_block t.map.window ram (with_piece (block_bytes t.map.window ram) block.items k)) f
+    ∙ ap (λ (at : PlainMap). with_block at.window ram (with_piece (block_bytes at.window ram) block.items b.filled)) out.same.map in
     subst (λ (after : PlainState). Turns Firmware Fill (over h ram) (over after new) m) (in_hand b t block Filling (b.filled + 1) (t.filled + 1) out (ap (λ (k : ℕ). k + 1) (sym f)))
     (fills h ram new m block.items (map (λ v. v.items) t.waiting.items) refl out.held (omega (arith, more, f)) memory_b st)
 
 pub publishes_hand : (b t : Blocks PlainMap) (block : Vec ℕ Global) (bytes : List ℕ) (ram new : RamState) → TakesOut plain_window_of b t block → bytes ≡ block.items → length block.items ≤ 64 * t.filled →
-    new ≡ with_plain_window t.map ram (with_status (block_bytes t.map.window ram) (take 4 bytes)) → (m : Machine) → PlainStands (state_of Filling b) ram m →
+    new ≡ with_block t.map.window ram (with_status (block_bytes t.map.window ram) (take 4 bytes)) → (m : Machine) → PlainStands (state_of Filling b) ram m →
     Turns Firmware Publish (over (state_of Filling b) ram) (over (state_of Published (record t { at_work = Some block; filled = 0 })) new) m
 publishes_hand b t block bytes ram new out is none memory m st =
     let h = state_of Filling b in
     let f = out.same.filled in
-    let memory_b : new ≡ with_plain_window b.map ram (with_status (block_bytes b.map.window ram) (take 4 block.items)) =
-    memory ∙ ap (λ (x : List ℕ). with_plain_window t.map ram (with_status (block_bytes t.map.window ram) (take 4 x))) is
-    ∙ ap (λ (at : PlainMap). with_plain_window at ram (with_status (block_bytes at.window ram) (take 4 block.items))) out.same.map in
+    let memory_b : new ≡ with_block b.map.window ram (with_status (block_bytes b.map.window ram) (take 4 block.items)) =
+    memory ∙ ap (λ (x : List ℕ). with_block t.map.window ram (with_status (block_bytes t.map.window ram) (take 4 x))) is
+    ∙ ap (λ (at : PlainMap). with_block at.window ram (with_status (block_bytes at.window ram) (take 4 block.items))) out.same.map in
     subst (λ (after : PlainState). Turns Firmware Publish (over h ram) (over after new) m) (in_hand b t block Published 0 0 out refl)
     (publishes h ram new m block.items (map (λ v. v.items) t.waiting.items) refl out.held (omega (arith, none, f)) memory_b st)
 
@@ -81,7 +83,7 @@ takes_at b after block bytes copied ram some is more all memory long is_after =
     (ap (state_of Reading) is_after ∙ ap (λ (x : List ℕ). record (state_of Reading b) { at_work = Some x; copied = b.copied + 1; last = x }) (copied_items b block bytes copied ram is memory long)) refl
 
 pub clears_at : (b : Blocks PlainMap) (rest : Option (Vec ℕ Global)) (ram new : RamState) → b.at_work ≡ None → rest ≡ None → IsCopiedSoFar b.copied b.at_work b.last →
-    new ≡ with_plain_window b.map ram (with_status (block_bytes b.map.window ram) (spelled 4 0)) → ReaderMakes (state_of Reading b) ram Clear (state_of Acknowledged (record b { at_work = rest })) new
+    new ≡ with_block b.map.window ram (with_status (block_bytes b.map.window ram) (spelled 4 0)) → ReaderMakes (state_of Reading b) ram Clear (state_of Acknowledged (record b { at_work = rest })) new
 clears_at b rest ram new none gone far memory =
     let work : in_work Reading b.at_work b.last ≡ Some b.last.items = ap (λ (o : Option (Vec ℕ Global)). in_work Reading o b.last) none in
     let all : length b.last.items ≤ 64 * b.copied = subst (λ (o : Option (Vec ℕ Global)). IsCopiedSoFar b.copied o b.last) none far in

@@ -7,8 +7,8 @@ use Rattle.ghes_ack.specs.declared.events.Side.TheVariants.{Firmware, Reader}
 use Rattle.ghes_ack.specs.declared.events.Event.{Event}
 use Rattle.ghes_ack.specs.declared.events.Event.TheVariants.{Free, Wait, Nothing, Found}
 use Rattle.ghes_ack.specs.Machine.{Machine, Situation, Filling, Published, Reading, Cleared, Acknowledged}
-use Rattle.ghes_ack.proofs.Terms.{looking_at}
 use Rattle.ghes_ack.specs.Sides.{waiting_at, state_of, handover_of, view_of, in_work, AreApart, IsCopiedSoFar}
+use Rattle.ghes_ack.proofs.Terms.{looking_at}
 use Rattle.ghes_ack.specs.declared.ends.Ends.{Ends}
 use Rattle.ghes_ack.specs.declared.ends.FirmwareEnd.{FirmwareEnd}
 use Rattle.ghes_ack.specs.declared.ends.FirmwareEnd.TheVariants.{Writes, Waits}
@@ -18,13 +18,16 @@ use Rattle.ghes_ack.specs.declared.window_blocks.Blocks.{Blocks}
 use Rattle.ghes_ack.specs.WindowQueues.{count_of}
 use Rattle.ghes_ack.proofs.RoomLemmas.{room_with}
 use Rattle.ghes_hub.specs.declared.plain.map.PlainMap.{PlainMap}
-use Rattle.ghes_hub.specs.Plain.{plain_status, PlainState, PlainStands}
+use Rattle.ghes_hub.specs.Plain.{PlainState, PlainStands}
 use Rattle.ghes_ack.specs.Handovers.{over}
-use Rattle.ghes_hub.specs.PlainSides.{IsSound, IsConsistent, AreConsistent, Stands, Turns, SideDone, FirmwareIsAble, FirmwareTurns, ReaderIsAble, ReaderTurns, SideIsAble, SideTurns}
+use Rattle.ghes_hub.specs.PlainSides.{IsSound, IsConsistent, AreConsistent, Turns, FirmwareIsAble, FirmwareTurns, ReaderIsAble, ReaderTurns, SideIsAble, SideTurns}
+use Rattle.ghes_hub.proofs.Terms.{SideDone}
+use Rattle.ghes_hub.proofs.Terms.{Stands}
 use Rattle.ghes_ack.proofs.SideLemmas.{none_copied}
 use Rattle.ghes_ack.proofs.JoinLemmas.{situation_at}
 use Rattle.ghes_hub.proofs.PlainTurns.{waits, held_status, no_status, finds_nothing, work_fits, reader_made}
 use Rattle.ghes_hub.proofs.PlainBlocks.{frees_at, finds_at}
+use Rattle.ghes_ack.specs.Windows.{block_status}
 
 -- each side can make a turn
 firmware_able : (firmware : FirmwareEnd) (reader : ReaderEnd) (b : Blocks PlainMap) (ram : RamState) → IsConsistent (record { firmware = firmware; reader = reader }) b → Stands (handover_of (record { firmware = firmware; reader = reader }) b) ram → FirmwareIsAble firmware b ram
@@ -57,7 +60,7 @@ same_done side event other ends next old new after ram memory left is_event is_n
     (subst (λ (r : RamState). SideDone side other ends next old after ram r) (sym is_memory) done))
 
 -- the firmware waits while the block status is not 0
-waits_by : (h : PlainState) (ram : RamState) (m : Machine) (s : Situation) → h.situation ≡ s → 0 < plain_status h.map ram → PlainStands h ram m → Turns Firmware Wait (over h ram) (over h ram) m
+waits_by : (h : PlainState) (ram : RamState) (m : Machine) (s : Situation) → h.situation ≡ s → 0 < block_status h.map.window ram → PlainStands h ram m → Turns Firmware Wait (over h ram) (over h ram) m
 waits_by h ram m Filling is some st = absurd (let none = no_status h ram m (inl is) st in omega (arith, some, none))
 waits_by h ram m Published is some st = waits h ram m (inl is) st
 waits_by h ram m Reading is some st = waits h ram m (inr (inl is)) st
@@ -69,7 +72,7 @@ record IsReturned (write : FirmwareEnd) (reader : ReaderEnd) (b : Blocks PlainMa
   apart : AreApart write reader
   turns : Turns Firmware Free (over (state_of s b) ram) (over (state_of Filling b) ram) m
 
-returned : (write : FirmwareEnd) (reader : ReaderEnd) (b : Blocks PlainMap) (ram : RamState) (work : Option (Vec ℕ Global)) → b.at_work ≡ work → plain_status b.map ram ≡ 0 → (m : Machine) → PlainStands (state_of (waiting_at reader work) b) ram m →
+returned : (write : FirmwareEnd) (reader : ReaderEnd) (b : Blocks PlainMap) (ram : RamState) (work : Option (Vec ℕ Global)) → b.at_work ≡ work → block_status b.map.window ram ≡ 0 → (m : Machine) → PlainStands (state_of (waiting_at reader work) b) ram m →
     IsReturned write reader b ram m (waiting_at reader work)
 returned (Writes write) (Looks look) b ram None is none m st = record { apart = tt; turns = frees_at b ram is m st }
 returned (Waits wait) (Looks look) b ram None is none m st = record { apart = tt; turns = frees_at b ram is m st }
@@ -113,7 +116,7 @@ firmware_done (Waits wait) (Waits later) reader b new ram memory event all stand
       turns = λ m st. waits_by (state_of (waiting_at reader b.at_work) b) ram m (waiting_at reader b.at_work) refl found.0 st;
     })
 
-nothing_by : (firmware : FirmwareEnd) (b : Blocks PlainMap) (ram : RamState) (work : Option (Vec ℕ Global)) → plain_status b.map ram ≡ 0 → (m : Machine) → PlainStands (state_of (situation_at firmware work) b) ram m →
+nothing_by : (firmware : FirmwareEnd) (b : Blocks PlainMap) (ram : RamState) (work : Option (Vec ℕ Global)) → block_status b.map.window ram ≡ 0 → (m : Machine) → PlainStands (state_of (situation_at firmware work) b) ram m →
     Turns Reader Nothing (over (state_of (situation_at firmware work) b) ram) (over (state_of (situation_at firmware work) b) ram) m
 nothing_by (Writes write) b ram work none m st = finds_nothing (state_of Filling b) ram m (inl refl) st
 nothing_by (Waits wait) b ram None none m st = finds_nothing (state_of Acknowledged b) ram m (inr refl) st
@@ -125,7 +128,7 @@ record IsFound (firmware : FirmwareEnd) (read : ReaderEnd) (b : Blocks PlainMap)
   far : IsCopiedSoFar 0 b.at_work b.last
   turns : Turns Reader Found (over (state_of s b) ram) (over (state_of Reading (record b { copied = 0 })) ram) m
 
-found_by : (firmware : FirmwareEnd) (read : ReaderEnd) (b : Blocks PlainMap) (ram : RamState) (work : Option (Vec ℕ Global)) → b.at_work ≡ work → 0 < plain_status b.map ram → (m : Machine) → PlainStands (state_of (situation_at firmware work) b) ram m →
+found_by : (firmware : FirmwareEnd) (read : ReaderEnd) (b : Blocks PlainMap) (ram : RamState) (work : Option (Vec ℕ Global)) → b.at_work ≡ work → 0 < block_status b.map.window ram → (m : Machine) → PlainStands (state_of (situation_at firmware work) b) ram m →
     IsFound firmware read b ram m (situation_at firmware work)
 found_by (Writes write) read b ram work is some m st = absurd (let none = no_status (state_of Filling b) ram m (inl refl) st in omega (arith, some, none))
 found_by (Waits wait) read b ram None is some m st = absurd (let none = no_status (state_of Acknowledged b) ram m (inr refl) st in omega (arith, some, none))

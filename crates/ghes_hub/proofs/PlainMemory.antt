@@ -14,11 +14,11 @@ use Rattle.ghes_ack.proofs.PlacedLemmas.{bytes_placed, stored_placed, fits_in}
 use Rattle.ghes_ack.proofs.WindowLemmas.{length-status}
 use Rattle.ghes_ack.specs.Machine.{with_status}
 use Rattle.ghes_hub.specs.declared.plain.map.PlainMap.{PlainMap}
-use Rattle.ghes_ack.specs.Windows.{block_bytes, HasAddressed}
-use Rattle.ghes_hub.specs.Plain.{plain_window_of, with_plain_window, with_plain_address}
+use Rattle.ghes_ack.specs.Windows.{block_bytes, HasAddressed, with_block, with_address_at}
+use Rattle.ghes_hub.proofs.Terms.{plain_window_of}
 
 -- a memory whose window is written with what it holds
-pub unchanged : (map : PlainMap) (ram : RamState) → HasAddressed map.status map.window ram → ram ≡ with_plain_window map ram (block_bytes map.window ram)
+pub unchanged : (map : PlainMap) (ram : RamState) → HasAddressed map.status map.window ram → ram ≡ with_block map.window ram (block_bytes map.window ram)
 unchanged map ram w =
     let b = block_placed map.status map.window ram w in
     let fits = fits_in ram (Memory map.window.block) map.window.len b.0 w.fills b.1 in
@@ -43,10 +43,10 @@ windows-stored map ram at n s bytes w p is =
     subst (HasAddressed map.status map.window) (sym (stored_placed ram at n s bytes p))
     (plain_windows_kept map ram (record ram { bytes = put_at ram.bytes s bytes }) refl (length-put_at ram.bytes s bytes (omega (arith, is, fits))) w)
 
-pub windows_window : (map : PlainMap) (ram new : RamState) (bytes : List ℕ) → new ≡ with_plain_window map ram bytes → length bytes ≡ map.window.len → HasAddressed map.status map.window ram → HasAddressed map.status map.window new
+pub windows_window : (map : PlainMap) (ram new : RamState) (bytes : List ℕ) → new ≡ with_block map.window ram bytes → length bytes ≡ map.window.len → HasAddressed map.status map.window ram → HasAddressed map.status map.window new
 windows_window map ram new bytes is n w = let b = block_placed map.status map.window ram w in subst (HasAddressed map.status map.window) (sym is) (windows-stored map ram (Memory map.window.block) map.window.len b.0 bytes w b.1 n)
 
-pub HasPlain-with_address : (map : PlainMap) (ram : RamState) → HasAddressed map.status map.window ram → HasAddressed map.status map.window (with_plain_address map ram)
+pub HasPlain-with_address : (map : PlainMap) (ram : RamState) → HasAddressed map.status map.window ram → HasAddressed map.status map.window (with_address_at map.status map.window ram)
 HasPlain-with_address map ram w = let a = status_placed map.status map.window ram w in windows-stored map ram (Memory map.status) 8 a.0 (spelled 8 map.window.block) w a.1 (length-spelled 8 map.window.block)
 
 pub length-plain_status : (map : PlainMap) (ram : RamState) (word : List ℕ) → length word ≡ 4 → HasAddressed map.status map.window ram → length (with_status (block_bytes map.window ram) word) ≡ map.window.len

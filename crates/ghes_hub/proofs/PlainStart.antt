@@ -19,22 +19,22 @@ use Rattle.ghes_hub.specs.declared.plain.map.PlainMap.{PlainMap}
 use Rattle.ghes_ack.specs.declared.ends.Ends.{Ends}
 use Rattle.ghes_hub.specs.Places.{IsOff, layout_windows}
 use Rattle.ghes_hub.specs.declared.layouts.Layout.TheVariants.{Plain as WithStatus}
-use Rattle.ghes_ack.specs.Windows.{block_bytes, address_at, HasAddressed}
-use Rattle.ghes_hub.specs.Plain.{with_plain_window, with_plain_address, plain_started, PlainState, PlainStands}
+use Rattle.ghes_ack.specs.Windows.{block_bytes, address_at, HasAddressed, with_block, with_address_at}
+use Rattle.ghes_hub.specs.Plain.{plain_started, PlainState, PlainStands}
 use Rattle.ghes_ack.specs.Handovers.{fresh, over}
 use Rattle.ghes_hub.specs.PlainSides.{Turns, AreConsistent}
 use Rattle.ghes_ack.proofs.AddressLemmas.{length-window, block_some, block_placed, status_placed, window-with_window, address-with_window, window-with_address, address-with_address}
 use Rattle.ghes_hub.proofs.PlainMemory.{windows_window, HasPlain-with_address, length-plain_status}
 use Rattle.ghes_hub.proofs.PlainTurns.{kept_now, agrees, stands_by}
 
-pub started_is : (at : PlainMap) (ram a new : RamState) → HasAddressed at.status at.window ram → a ≡ with_plain_address at ram → new ≡ with_plain_window at a (put_at (block_bytes at.window a) 0 (spelled 4 0)) → new ≡ plain_started at ram
+pub started_is : (at : PlainMap) (ram a new : RamState) → HasAddressed at.status at.window ram → a ≡ with_address_at at.status at.window ram → new ≡ with_block at.window a (put_at (block_bytes at.window a) 0 (spelled 4 0)) → new ≡ plain_started at ram
 started_is at ram a new w is_a is =
-    is ∙ ap (λ (r : RamState). with_plain_window at r (with_status (block_bytes at.window r) (spelled 4 0))) is_a
-    ∙ ap (λ (bytes : List ℕ). with_plain_window at (with_plain_address at ram) (with_status bytes (spelled 4 0))) (window-with_address at.status at.window ram w)
+    is ∙ ap (λ (r : RamState). with_block at.window r (with_status (block_bytes at.window r) (spelled 4 0))) is_a
+    ∙ ap (λ (bytes : List ℕ). with_block at.window (with_address_at at.status at.window ram) (with_status bytes (spelled 4 0))) (window-with_address at.status at.window ram w)
 
 pub fresh_stands : (at : PlainMap) (ram new : RamState) → HasAddressed at.status at.window ram → new ≡ plain_started at ram → PlainStands (fresh at) new (started (block_bytes at.window ram))
 fresh_stands at ram new w is =
-    let a : RamState = with_plain_address at ram in
+    let a : RamState = with_address_at at.status at.window ram in
     let w_a = HasPlain-with_address at ram w in
     let bytes : List ℕ = with_status (block_bytes at.window ram) (spelled 4 0) in
     let wide = length-plain_status at ram (spelled 4 0) (length-spelled 4 0) w in
@@ -55,12 +55,12 @@ pub waiting_of : (ends : Option Ends) (b : Blocks PlainMap) → AreConsistent en
 waiting_of None b all = absurd all
 waiting_of (Some ends) b all = length-map b.waiting.items (λ v. v.items) ∙ all.sound.room.counted
 
-pub plain_elsewhere : (map : PlainMap) (ram : RamState) (bytes : List ℕ) → HasAddressed map.status map.window ram → length bytes ≡ map.window.len → SameWhere (IsOff (layout_windows (WithStatus map))) ram (with_plain_window map ram bytes)
+pub plain_elsewhere : (map : PlainMap) (ram : RamState) (bytes : List ℕ) → HasAddressed map.status map.window ram → length bytes ≡ map.window.len → SameWhere (IsOff (layout_windows (WithStatus map))) ram (with_block map.window ram bytes)
 plain_elsewhere map ram bytes w n = let b = block_placed map.status map.window ram w in SameWhere-stored (IsOff (layout_windows (WithStatus map))) ram (Memory map.window.block) map.window.len b.0 bytes w.fills b.1 n (block_some map.status map.window ram w) (λ at k off. off.1.0)
 
 pub plain_elsewhere_started : (map : PlainMap) (ram new : RamState) → HasAddressed map.status map.window ram → new ≡ plain_started map ram → SameWhere (IsOff (layout_windows (WithStatus map))) ram new
 plain_elsewhere_started map ram new w is =
-    let a : RamState = with_plain_address map ram in
+    let a : RamState = with_address_at map.status map.window ram in
     let p = status_placed map.status map.window ram w in
     let wide = length-plain_status map ram (spelled 4 0) (length-spelled 4 0) w in
     let one = SameWhere-stored (IsOff (layout_windows (WithStatus map))) ram (Memory map.status) 8 p.0 (spelled 8 map.window.block) w.fills p.1 (length-spelled 8 map.window.block) (omega arith) (λ at k off. off.0) in

@@ -10,16 +10,18 @@ use Rattle.ghes_ack.specs.declared.events.Side.TheVariants.{Firmware, Reader}
 use Rattle.ghes_ack.specs.declared.events.Event.{Event}
 use Rattle.ghes_ack.specs.declared.events.Event.TheVariants.{Idle, Fill, Publish, Free, Wait, Nothing, Found, Copied, Took, Clear}
 use Rattle.ghes_ack.specs.Machine.{Machine, Situation, Filling, Published, Reading, Cleared, Acknowledged, Fits, with_piece, with_status, reader_turn, turned}
-use Rattle.ghes_ack.proofs.MachineTurns as machine
 use Rattle.ghes_ack.proofs.Terms.{Turned}
+use Rattle.ghes_ack.proofs.MachineTurns as machine
 use Rattle.ghes_ack.proofs.Kept.{Kept, Agrees, kept_over}
 use Rattle.ghes_ack.proofs.MachineTurns.{Next}
 use Rattle.ghes_hub.specs.declared.plain.map.PlainMap.{PlainMap}
-use Rattle.ghes_hub.specs.Kinds.{ByStatus, settled, turned_by}
-use Rattle.ghes_ack.specs.Windows.{block_bytes, address_at, HasAddressed}
-use Rattle.ghes_hub.specs.Plain.{plain_status, with_plain_window, PlainState, PlainStands}
+use Rattle.ghes_hub.specs.Kinds.{ByStatus, turned_by}
+use Rattle.ghes_hub.proofs.Terms.{settled}
+use Rattle.ghes_ack.specs.Windows.{block_bytes, address_at, HasAddressed, block_status, with_block}
+use Rattle.ghes_hub.specs.Plain.{PlainState, PlainStands}
 use Rattle.ghes_ack.specs.Handovers.{kept, over}
-use Rattle.ghes_hub.specs.PlainSides.{Turns, Stands, with_next_piece, ReaderMakes, Copies, Takes, Clears}
+use Rattle.ghes_hub.specs.PlainSides.{Turns, with_next_piece, ReaderMakes, Copies, Takes, Clears}
+use Rattle.ghes_hub.proofs.Terms.{Stands}
 use Rattle.ghes_ack.proofs.AddressLemmas.{length-window, window-with_window, address-with_window}
 use Rattle.ghes_hub.proofs.PlainMemory.{windows_window, length-plain_status, unchanged}
 
@@ -71,7 +73,7 @@ settles n is = ap (settled n) is ∙ sym (ap (λ (s : Situation). (reader_turn n
 
 -- a turn that the machine makes so: what it keeps then, and what the memory is
 made : (side : Side) (event : Event) (h after : PlainState) (ram memory : RamState) (bytes : List ℕ) (m n : Machine) → turned_by ByStatus side m ≡ (event, n) → Agrees (kept_with after bytes) n → after.situation ≢ Cleared → bytes ≡ block_bytes after.map.window memory →
-    after.map ≡ h.map → memory ≡ with_plain_window h.map ram (block_bytes h.map.window memory) → HasAddressed after.map.status after.map.window memory → address_at after.map.status memory ≡ after.map.window.block → Turns side event (over h ram) (over after memory) m
+    after.map ≡ h.map → memory ≡ with_block h.map.window ram (block_bytes h.map.window memory) → HasAddressed after.map.status after.map.window memory → address_at after.map.status memory ≡ after.map.window.block → Turns side event (over h ram) (over after memory) m
 made side event h after ram memory bytes m n is a occurs seen same memory_is windows address = record {
   event_is = sym (ap (λ (t : Turned). t.0) is);
   stands = subst (PlainStands after memory) (sym (ap (λ (t : Turned). t.1) is)) (stands_by after memory bytes n a seen windows address occurs);
@@ -90,14 +92,14 @@ stays side event h after ram m next occurs same st windows address =
     made side event h after ram ram (block_bytes after.map.window ram) m next.machine (settled_next side event (kept_with after (block_bytes after.map.window ram)) m next occurs) next.agrees occurs refl same (unchanged h.map ram st.windows) windows address
 
 -- a turn that writes the window and nothing else
-pub written : (map : PlainMap) (ram new : RamState) (bytes : List ℕ) → HasAddressed map.status map.window ram → length bytes ≡ map.window.len → new ≡ with_plain_window map ram bytes → block_bytes map.window new ≡ bytes
+pub written : (map : PlainMap) (ram new : RamState) (bytes : List ℕ) → HasAddressed map.status map.window ram → length bytes ≡ map.window.len → new ≡ with_block map.window ram bytes → block_bytes map.window new ≡ bytes
 written map ram new bytes w n is = ap (block_bytes map.window) is ∙ window-with_window map.status map.window ram bytes w n
 
-pub written_only : (map : PlainMap) (ram new : RamState) (bytes : List ℕ) → HasAddressed map.status map.window ram → length bytes ≡ map.window.len → new ≡ with_plain_window map ram bytes → new ≡ with_plain_window map ram (block_bytes map.window new)
-written_only map ram new bytes w n is = is ∙ ap (with_plain_window map ram) (sym (written map ram new bytes w n is))
+pub written_only : (map : PlainMap) (ram new : RamState) (bytes : List ℕ) → HasAddressed map.status map.window ram → length bytes ≡ map.window.len → new ≡ with_block map.window ram bytes → new ≡ with_block map.window ram (block_bytes map.window new)
+written_only map ram new bytes w n is = is ∙ ap (with_block map.window ram) (sym (written map ram new bytes w n is))
 
 writes : (side : Side) (event : Event) (h after : PlainState) (ram new : RamState) (bytes : List ℕ) (m n : Machine) → turned_by ByStatus side m ≡ (event, n) → Agrees (kept_with after bytes) n → after.situation ≢ Cleared → after.map ≡ h.map →
-    length bytes ≡ h.map.window.len → new ≡ with_plain_window h.map ram bytes → PlainStands h ram m → Turns side event (over h ram) (over after new) m
+    length bytes ≡ h.map.window.len → new ≡ with_block h.map.window ram bytes → PlainStands h ram m → Turns side event (over h ram) (over after new) m
 writes side event h after ram new bytes m n is a occurs same wide memory st =
     let windows = windows_window h.map ram new bytes memory wide st.windows in
     let address : address_at h.map.status new ≡ h.map.window.block = ap (address_at h.map.status) memory ∙ address-with_window h.map.status h.map.window ram bytes st.windows wide ∙ st.address in
@@ -113,7 +115,7 @@ pub idles : (h : PlainState) (ram : RamState) (m : Machine) → h.situation ≡ 
 idles h ram m now none st = stays Firmware Idle h h ram m (machine.idles (kept_now h ram) m now none (agrees h ram m st)) st.occurs refl st st.windows st.address
 
 pub fills : (h : PlainState) (ram new : RamState) (m : Machine) (block : List ℕ) (rest : List (List ℕ)) → h.situation ≡ Filling → kept h ≡ block ∷ rest → 64 * h.filled < length block →
-    new ≡ with_plain_window h.map ram (with_piece (block_bytes h.map.window ram) block h.filled) → PlainStands h ram m →
+    new ≡ with_block h.map.window ram (with_piece (block_bytes h.map.window ram) block h.filled) → PlainStands h ram m →
     Turns Firmware Fill (over h ram) (over (record h { waiting = rest; at_work = Some block; filled = h.filled + 1 }) new) m
 fills h ram new m block rest now held more memory st =
     let fits = (next_fits h ram m block rest held st).fits in
@@ -125,7 +127,7 @@ fills h ram new m block rest now held more memory st =
 
 -- a block all of whose pieces are filled is published
 pub publishes : (h : PlainState) (ram new : RamState) (m : Machine) (block : List ℕ) (rest : List (List ℕ)) → h.situation ≡ Filling → kept h ≡ block ∷ rest → length block ≤ 64 * h.filled →
-    new ≡ with_plain_window h.map ram (with_status (block_bytes h.map.window ram) (take 4 block)) → PlainStands h ram m →
+    new ≡ with_block h.map.window ram (with_status (block_bytes h.map.window ram) (take 4 block)) → PlainStands h ram m →
     Turns Firmware Publish (over h ram) (over (record h { waiting = rest; at_work = Some block; filled = 0; situation = Published }) new) m
 publishes h ram new m block rest now held none memory st =
     let head = (next_fits h ram m block rest held st).head in
@@ -141,11 +143,11 @@ waits h ram m held st = stays Firmware Wait h h ram m (machine.waits (kept_now h
 pub frees : (h : PlainState) (ram : RamState) (m : Machine) → h.situation ≡ Acknowledged → PlainStands h ram m → Turns Firmware Free (over h ram) (over (record h { situation = Filling }) ram) m
 frees h ram m now st = stays Firmware Free h (record h { situation = Filling }) ram m (machine.frees (kept_now h ram) m now (agrees h ram m st)) (λ e. cc e) refl st st.windows st.address
 
-pub no_status : (h : PlainState) (ram : RamState) (m : Machine) → (h.situation ≡ Filling) ⊎ (h.situation ≡ Acknowledged) → PlainStands h ram m → plain_status h.map ram ≡ 0
+pub no_status : (h : PlainState) (ram : RamState) (m : Machine) → (h.situation ≡ Filling) ⊎ (h.situation ≡ Acknowledged) → PlainStands h ram m → block_status h.map.window ram ≡ 0
 no_status h ram m now st = machine.no_status (kept_now h ram) m now (agrees h ram m st)
 
 -- a published block shows its status, while it is read, too
-pub held_status : (h : PlainState) (ram : RamState) (m : Machine) → (h.situation ≡ Published) ⊎ (h.situation ≡ Reading) → PlainStands h ram m → 0 < plain_status h.map ram
+pub held_status : (h : PlainState) (ram : RamState) (m : Machine) → (h.situation ≡ Published) ⊎ (h.situation ≡ Reading) → PlainStands h ram m → 0 < block_status h.map.window ram
 held_status h ram m now st = machine.some_status (kept_now h ram) m now (agrees h ram m st)
 
 pub finds_nothing : (h : PlainState) (ram : RamState) (m : Machine) → (h.situation ≡ Filling) ⊎ (h.situation ≡ Acknowledged) → PlainStands h ram m → Turns Reader Nothing (over h ram) (over h ram) m
@@ -178,7 +180,7 @@ copies_last h ram m block now is more all st =
 
 -- the clearing is the acknowledgement
 pub clears : (h : PlainState) (ram new : RamState) (m : Machine) (block : List ℕ) → h.situation ≡ Reading → h.at_work ≡ Some block → length block ≤ 64 * h.copied →
-    new ≡ with_plain_window h.map ram (with_status (block_bytes h.map.window ram) (spelled 4 0)) → PlainStands h ram m → Turns Reader Clear (over h ram) (over (record h { situation = Acknowledged; at_work = None }) new) m
+    new ≡ with_block h.map.window ram (with_status (block_bytes h.map.window ram) (spelled 4 0)) → PlainStands h ram m → Turns Reader Clear (over h ram) (over (record h { situation = Acknowledged; at_work = None }) new) m
 clears h ram new m block now is all memory st =
     let wide = length-plain_status h.map ram (spelled 4 0) (length-spelled 4 0) st.windows in
     let held = held_work h block is in

@@ -7,12 +7,15 @@ use Rattle.std.proofs.lemmas.Bool.Decides.{nat_tests}
 use Rattle.ghes_ack.specs.declared.events.Side.{Side}
 use Rattle.ghes_ack.specs.declared.events.Side.TheVariants.{Firmware, Reader}
 use Rattle.ghes_ack.specs.declared.events.Event.{Event}
-use Rattle.ghes_ack.proofs.Terms.{Turned, offered, reading}
 use Rattle.ghes_ack.specs.Machine.{Machine, Situation, Filling, Published, Reading, Cleared, Acknowledged, Fits, at_work, pieces, filling, firmware_turn, reader_turn, turned, last_taken, InSituation, IsState}
+use Rattle.ghes_ack.proofs.Terms.{Turned}
+use Rattle.ghes_ack.proofs.Terms.{offered}
+use Rattle.ghes_ack.proofs.Terms.{reading}
 use Rattle.ghes_ack.specs.Schedules.{Step, Submit, Turn, Watched, after, run, from_start, AreFitting, AreInOrder, submissions}
 use Rattle.ghes_ack.proofs.StepLemmas.{submit_keeps, start_is}
 use Rattle.ghes_ack.proofs.ScheduleLemmas.{watched_machine, run_state, run_taken, run_order, run_blocks, state_in_order}
-use Rattle.ghes_hub.specs.Kinds.{Kind, ByRegister, ByStatus, settled, turned_by}
+use Rattle.ghes_hub.specs.Kinds.{Kind, ByRegister, ByStatus, turned_by}
+use Rattle.ghes_hub.proofs.Terms.{settled}
 use Rattle.ghes_hub.specs.Runs.{after_by, run_by, takes, told_at, told_by}
 use Rattle.ghes_hub.proofs.KindLemmas.{spread, spread_run, spread_submissions, spread_fitting, turned_keeps}
 

@@ -24,7 +24,7 @@ use Rattle.ghes_hub.specs.Plain.{PlainState, PlainStands}
 use Rattle.ghes_hub.specs.declared.layouts.Layout.TheVariants.{Acknowledged as WithRegister, Plain as WithStatus}
 use Rattle.ghes_hub.specs.Layouts.{layout_kind}
 use Rattle.ghes_hub.specs.Places.{layout_windows, IsOff, AreClear}
-use Rattle.ghes_hub.specs.OneSource.{layout_in, windows_of, SourceStands, Stands, SamePlaces, SourceTurned}
+use Rattle.ghes_hub.specs.OneSource.{layout_in, SourceStands, SourceTurned}
 use Rattle.ghes_hub.specs.SourcesState.{SourcesState, layouts_in, AreServed, StandsAt}
 
 pub slice_get-same : {X : Type 0} (xs : List X) (i : ℕ) (y : X) → i < length xs → slice_get (set xs i y) i ≡ Some y
@@ -57,7 +57,7 @@ kept_by h windows old new m clear s st =
     (plain_windows_kept h.map old new s.windows s.size st.windows) (ap little (s.bytes (Memory h.map.status) 8 clear.0) ∙ st.address) st.occurs
 
 -- what is written off the windows of a source leaves it
-pub source_kept : (q : Source) (windows : List Window) (old new : RamState) (m : Machine) → AreClear windows (windows_of q) → SameWhere (IsOff windows) old new → SourceStands q old m → SourceStands q new m
+pub source_kept : (q : Source) (windows : List Window) (old new : RamState) (m : Machine) → AreClear windows (layout_windows (layout_in q)) → SameWhere (IsOff windows) old new → SourceStands q old m → SourceStands q new m
 source_kept (Acknowledged h) windows old new m clear s st = StandsFor-others h old new m (same_in_map h.map windows old new clear s) st
 source_kept (Plain h) windows old new m clear s st = kept_by h windows old new m clear s st
 
@@ -65,36 +65,36 @@ source_kept (Plain h) windows old new m clear s st = kept_by h windows old new m
 pub record Moves (ram new : RamState) (list : List Source) (i : ℕ) (before after : Source) : Type 0 where
   pub within : i < length list
   pub is : slice_get list i ≡ Some before
-  pub places : SamePlaces before after
-  pub elsewhere : SameWhere (IsOff (windows_of before)) ram new
+  pub places : layout_in after ≡ layout_in before
+  pub elsewhere : SameWhere (IsOff (layout_windows (layout_in before))) ram new
 
 windows_at : (ram new : RamState) (list : List Source) (i : ℕ) (before after : Source) → Moves ram new list i before after → (j : ℕ) (q : Source) → slice_get (set list i after) j ≡ Some q →
-    (p : Source) × (slice_get list j ≡ Some p) × (windows_of q ≡ windows_of p)
+    (p : Source) × (slice_get list j ≡ Some p) × (layout_windows (layout_in q) ≡ layout_windows (layout_in p))
 windows_at ram new list i before after h j q is = elim (cases_eq j i) [
   | inl same ↦
       let here : slice_get (set list i after) j ≡ Some after = ap (slice_get (set list i after)) same ∙ slice_get-same list i after h.within in
       let e : q ≡ after = (let both = sym is ∙ here in cc) in
-      (before, ap (slice_get list) same ∙ h.is, ap windows_of e ∙ h.places.windows)
+      (before, ap (slice_get list) same ∙ h.is, ap (λ (p : Source). layout_windows (layout_in p)) e ∙ ap layout_windows h.places)
   | inr other ↦ (q, sym (slice_get-other list i j after other) ∙ is, refl)
 ]
 
-pub served : (ram new : RamState) (list : List Source) (i : ℕ) (before after : Source) → Moves ram new list i before after → Stands after new → AreServed ram list → AreServed new (set list i after)
+pub served : (ram new : RamState) (list : List Source) (i : ℕ) (before after : Source) → Moves ram new list i before after → ((m : Machine) × SourceStands after new m) → AreServed ram list → AreServed new (set list i after)
 served ram new list i before after h stands all = record {
   stands = λ j q is. elim (cases_eq j i) [
     | inl same ↦
         let here : slice_get (set list i after) j ≡ Some after = ap (slice_get (set list i after)) same ∙ slice_get-same list i after h.within in
         let e : after ≡ q = (let both = sym here ∙ is in cc) in
-        subst (λ (p : Source). Stands p new) e stands
+        subst (λ (p : Source). ((m : Machine) × SourceStands p new m)) e stands
     | inr other ↦
         let there : slice_get list j ≡ Some q = sym (slice_get-other list i j after other) ∙ is in
         let (m, st) = all.stands j q there in
-        (m, source_kept q (windows_of before) ram new m (all.apart i j before q (λ e. other (sym e)) h.is there) h.elsewhere st)
+        (m, source_kept q (layout_windows (layout_in before)) ram new m (all.apart i j before q (λ e. other (sym e)) h.is there) h.elsewhere st)
   ];
   apart = λ j k p q other is_p is_q.
       let a = windows_at ram new list i before after h j p is_p in
       let b = windows_at ram new list i before after h k q is_q in
       let clear = all.apart j k a.0 b.0 other a.1 b.1 in
-      subst (λ (ws : List Window). AreClear ws (windows_of q)) (sym a.2) (subst (AreClear (windows_of a.0)) (sym b.2) clear);
+      subst (λ (ws : List Window). AreClear ws (layout_windows (layout_in q))) (sym a.2) (subst (AreClear (layout_windows (layout_in a.0))) (sym b.2) clear);
 }
 
 -- the other sources stand for the same states
@@ -104,7 +104,7 @@ others_stand ram new list i before after h all kind j m other at = record {
   handover = at.handover;
   is = slice_get-other list i j after other ∙ at.is;
   kind_is = at.kind_is;
-  stands = source_kept at.handover (windows_of before) ram new m (all.apart i j before at.handover (λ e. other (sym e)) h.is at.is) h.elsewhere at.stands;
+  stands = source_kept at.handover (layout_windows (layout_in before)) ram new m (all.apart i j before at.handover (λ e. other (sym e)) h.is at.is) h.elsewhere at.stands;
 }
 
 same_post : (list : List Source) (i : ℕ) (p q : Source) → slice_get list i ≡ Some p → slice_get list i ≡ Some q → p ≡ q
@@ -119,7 +119,7 @@ turns_at ram new list i before after side event h turned kind m at =
     let e : at.handover ≡ before = same_post list i at.handover before at.is h.is in
     let k : layout_kind (layout_in before) ≡ kind = ap (λ (p : Source). layout_kind (layout_in p)) (sym e) ∙ at.kind_is in
     let t : SourceTurned kind side event after new m = subst (λ (x : Kind). SourceTurned x side event after new m) k (turned m (subst (λ (p : Source). SourceStands p ram m) e at.stands)) in
-    (t.event_is, record { handover = after; is = slice_get-same list i after h.within; kind_is = ap layout_kind h.places.layout ∙ k; stands = t.stands })
+    (t.event_is, record { handover = after; is = slice_get-same list i after h.within; kind_is = ap layout_kind h.places ∙ k; stands = t.stands })
 
 pub submits_at : (ram : RamState) (list : List Source) (i : ℕ) (before after : Source) (block : List ℕ) → Moves ram ram list i before after →
     ((any : RamState) (m : Machine) → SourceStands before any m → SourceStands after any (submitted m block)) →
@@ -130,11 +130,11 @@ submits_at ram list i before after block h stands kind m at =
     record {
       handover = after;
       is = slice_get-same list i after h.within;
-      kind_is = ap layout_kind h.places.layout ∙ k;
+      kind_is = ap layout_kind h.places ∙ k;
       stands = stands ram m (subst (λ (p : Source). SourceStands p ram m) e at.stands);
     }
 
-pub moves : (s : SourcesState) (ram new : RamState) (list : List Source) (i : ℕ) (before after : Source) → record { ram = ram; list = list } ≡ s → i < length s.list → before ≡ get_or list i before → SamePlaces before after → SameWhere (IsOff (windows_of before)) ram new →
+pub moves : (s : SourcesState) (ram new : RamState) (list : List Source) (i : ℕ) (before after : Source) → record { ram = ram; list = list } ≡ s → i < length s.list → before ≡ get_or list i before → layout_in after ≡ layout_in before → SameWhere (IsOff (layout_windows (layout_in before))) ram new →
     Moves ram new list i before after
 moves s ram new list i before after view within is places elsewhere =
     let here : i < length list = subst (λ (x : SourcesState). i < length x.list) (sym view) within in
@@ -145,9 +145,9 @@ of_view kind s t i m view at = subst (λ (x : SourcesState). StandsAt kind x i m
 
 -- a source after a submission that may have been refused
 pub stands_after : {A E : Type 0} (r : Result A E) (ram : RamState) (before after : Source) (block : List ℕ) → OnOk r ((any : RamState) (m : Machine) → SourceStands before any m → SourceStands after any (submitted m block)) → OnErr r (after ≡ before) →
-    Stands before ram → Stands after ram
+    ((m : Machine) × SourceStands before ram m) → ((m : Machine) × SourceStands after ram m)
 stands_after (Ok a) ram before after block added kept (m, st) = (submitted m block, added ram m st)
-stands_after (Err e) ram before after block added kept st = subst (λ (p : Source). Stands p ram) (sym kept) st
+stands_after (Err e) ram before after block added kept st = subst (λ (p : Source). ((m : Machine) × SourceStands p ram m)) (sym kept) st
 
 pub stands_here : (ram : RamState) (list : List Source) (i : ℕ) (p : Source) (m : Machine) → slice_get list i ≡ Some p → SourceStands p ram m → StandsAt (layout_kind (layout_in p)) (record { ram = ram; list = list }) i m
 stands_here ram list i p m is st = record { handover = p; is = is; kind_is = refl; stands = st }
@@ -162,4 +162,4 @@ set_same {X} {Y} f (z ∷ zs) (suc i) x y is e = ap (λ (ws : List Y). f z ∷ w
 
 -- all sources lie where they lay
 pub same_layouts : (ram new : RamState) (list : List Source) (i : ℕ) (before after : Source) (s : SourcesState) → Moves ram new list i before after → record { ram = ram; list = list } ≡ s → map layout_in (set list i after) ≡ layouts_in s
-same_layouts ram new list i before after s h view = set_same layout_in list i before after h.is h.places.layout ∙ ap layouts_in view
+same_layouts ram new list i before after s h view = set_same layout_in list i before after h.is h.places ∙ ap layouts_in view

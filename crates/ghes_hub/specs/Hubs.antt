@@ -22,28 +22,25 @@ sources_in hub = length hub.sources.list
 abbrev pub last_in : SourcesState → ℕ → List ℕ
 last_in s i = elim (slice_get s.list i) [ None ↦ [] | Some handover ↦ last_of handover ]
 
--- the sources but number i stand for what they stood for
-abbrev pub OthersStand : ℕ → SourcesState → SourcesState → Type 0
-OthersStand i old new = (kind : Kind) (j : ℕ) (m : Machine) → j ≢ i → StandsAt kind old j m → StandsAt kind new j m
-
 -- calls of a hub with their answers
 pub data Call : Type 0 where
   Submits : ℕ → List ℕ → Call
   Turns : ℕ → Side → Event → Call
   Removes : ℕ → ℕ → Call
 
+-- a block is submitted to source i; the others stand for what they stood for
 pub record HubSubmits {L : Type 0} (i : ℕ) (block : List ℕ) (old new : HubState L) : Type 0 where
   pub submitted : (kind : Kind) (m : Machine) → StandsAt kind old.sources i m → StandsAt kind new.sources i (submitted m block)
-  pub others : OthersStand i old.sources new.sources
+  pub others : (kind : Kind) (j : ℕ) (m : Machine) → j ≢ i → StandsAt kind old.sources j m → StandsAt kind new.sources j m
   pub chains : new.chains ≡ old.chains
   pub layouts : layouts_in new.sources ≡ layouts_in old.sources
   pub count : sources_in new ≡ sources_in old
 
--- the listeners of the source, and no others, are told of the block that it took, if any
+-- a turn of source i: the others stand for what they stood for; its listeners, and no others, are told of the block that it took, if any
 pub record HubTurns {L : Type 0} (hearing : L → Hearing) (i : ℕ) (side : Side) (event : Event) (old new : HubState L) : Type 0 where
   pub turned : (kind : Kind) (m : Machine) → StandsAt kind old.sources i m →
       let turn = turned_by kind side m in (event ≡ turn.0) × StandsAt kind new.sources i turn.1
-  pub others : OthersStand i old.sources new.sources
+  pub others : (kind : Kind) (j : ℕ) (m : Machine) → j ≢ i → StandsAt kind old.sources j m → StandsAt kind new.sources j m
   pub told : (members : List L) → slice_get old.chains i ≡ Some members →
       (now : List L) × (slice_get new.chains i ≡ Some now) × Told hearing (told_at event (last_in new.sources i)) members now
   pub other_chains : (j : ℕ) → j ≢ i → slice_get new.chains j ≡ slice_get old.chains j

@@ -4,7 +4,6 @@ use Rattle.apei_tables.specs.declared.registers.Place.{Place}
 use Rattle.apei_tables.specs.declared.registers.Place.TheVariants.{Memory, Io}
 use Rattle.apei_space.specs.declared.windows.Window.{Window}
 use Rattle.apei_space.specs.Windows.{EndsBelow, AreApart}
-use Rattle.apei_space.specs.Mapped.{IsMapped}
 use Rattle.ghes_hub.specs.Places.{IsOff}
 
 abbrev pub follows_at : Place → ℕ → Place → Bool
@@ -17,15 +16,12 @@ follows_at (Io base) n (Memory next) = false
 abbrev pub follows : Window → Window → Bool
 follows first second = follows_at first.place first.len second.place
 
-abbrev pub both : Window → Window → Window
-both first second = record { place = first.place; len = first.len + second.len }
-
 -- windows with one more, joined to those that it adjoins
 abbrev pub joins : List Window → Window → List Window
 joins [] new = new ∷ []
 joins (window ∷ windows) new =
-    if follows window new then joins windows (both window new)
-    else if follows new window then joins windows (both new window)
+    if follows window new then joins windows (record { place = window.place; len = window.len + new.len })
+    else if follows new window then joins windows (record { place = new.place; len = new.len + window.len })
     else window ∷ joins windows new
 
 -- ranges that have bytes, end below the last address, and have no byte in common with earlier ones
@@ -38,9 +34,3 @@ pub record MayJoin (windows : List Window) (new : Window) : Type 0 where
   pub apart : AreApart windows
   pub ends : EndsBelow new.place new.len
   pub off : IsOff windows new.place new.len
-
--- windows that are apart hold the bytes of some ranges, and are off what is off those
-pub record AreJoined (ranges windows : List Window) : Type 0 where
-  pub apart : AreApart windows
-  pub off : (at : Place) (n : ℕ) → 0 < n → IsOff ranges at n → IsOff windows at n
-  pub mapped : (at : Place) → IsMapped ranges at → IsMapped windows at

@@ -10,7 +10,7 @@ use Rattle.ghes_hub.specs.Kinds.{Kind, ByRegister, ByStatus}
 use Rattle.ghes_ack.specs.Windows.{block_bytes, HasAddressed}
 use Rattle.ghes_hub.specs.Places.{AreClear}
 pub use Rattle.ghes_hub.specs.Places.{layout_windows}
-use Rattle.ghes_hub.specs.OneSource.{layout_in, windows_of, SourceStands}
+use Rattle.ghes_hub.specs.OneSource.{layout_in, SourceStands}
 
 abbrev pub layout_kind : Layout → Kind
 layout_kind (Acknowledged map) = ByRegister
@@ -35,7 +35,7 @@ pub record IsBegun (layouts : List Layout) (first ram : RamState) (i : ℕ) (han
   pub layout : Layout
   pub is : slice_get layouts i ≡ Some layout
   pub kind : layout_kind (layout_in handover) ≡ layout_kind layout
-  pub windows : windows_of handover ≡ layout_windows layout
+  pub windows : layout_windows (layout_in handover) ≡ layout_windows layout
   pub stands : SourceStands handover ram (started (layout_window layout first))
 
 -- the first sources are begun, and the memory of the others is as at first

@@ -1,6 +1,5 @@
 -- A source of either kind, and the states of the machine that it stands for.
 use Rattle.std.specs.Prelude.{◌≡◌, ℕ, List, length, Option}
-use Rattle.apei_space.specs.declared.windows.Window.{Window}
 use Rattle.apei_space.specs.RamState.{RamState}
 use Rattle.ghes_ack.specs.declared.events.Side.{Side}
 use Rattle.ghes_ack.specs.declared.events.Event.{Event}
@@ -14,23 +13,15 @@ use Rattle.ghes_hub.specs.declared.source.Source.{Source}
 use Rattle.ghes_hub.specs.declared.source.Source.TheVariants.{Acknowledged, Plain}
 use Rattle.ghes_hub.specs.Kinds.{Kind, turned_by}
 use Rattle.ghes_hub.specs.Plain.{PlainStands}
-use Rattle.ghes_hub.specs.Places.{layout_windows}
 
 -- where its parts lie
 abbrev pub layout_in : Source → Layout
 layout_in (Acknowledged h) = WithRegister h.map
 layout_in (Plain h) = WithStatus h.map
 
-abbrev pub windows_of : Source → List Window
-windows_of handover = layout_windows (layout_in handover)
-
 abbrev pub SourceStands : Source → RamState → Machine → Type 0
 SourceStands (Acknowledged h) ram m = StandsFor h ram m
 SourceStands (Plain h) ram m = PlainStands h ram m
-
--- it stands for some state
-abbrev pub Stands : Source → RamState → Type 0
-Stands handover ram = (m : Machine) × SourceStands handover ram m
 
 abbrev pub waiting_of : Source → List (List ℕ)
 waiting_of (Acknowledged h) = h.waiting
@@ -44,11 +35,6 @@ last_of (Plain h) = h.last
 abbrev pub refusal_of : Source → List ℕ → Option SubmitError
 refusal_of (Acknowledged h) block = refusal_within h.map.len block (length h.waiting)
 refusal_of (Plain h) block = refusal_within h.map.window.len block (length h.waiting)
-
--- the same source in another state
-pub record SamePlaces (old new : Source) : Type 0 where
-  pub layout : layout_in new ≡ layout_in old
-  pub windows : windows_of new ≡ windows_of old
 
 -- a turn, from a state of the machine: the machine's event, and afterwards it stands for the machine's next state
 pub record SourceTurned (kind : Kind) (side : Side) (event : Event) (after : Source) (memory : RamState) (m : Machine) : Type 0 where

@@ -7,7 +7,8 @@ use Rattle.ghes_ack.specs.declared.events.Side.TheVariants.{Firmware, Reader}
 use Rattle.ghes_ack.specs.declared.events.Event.{Event}
 use Rattle.ghes_ack.specs.declared.events.Event.TheVariants.{Free, Wait, Nothing, Found, Copied, Took, Clear}
 use Rattle.ghes_ack.specs.Machine.{Machine, Situation, Filling, Published, Reading, Cleared, Acknowledged, with_status}
-use Rattle.ghes_ack.specs.Sides.{IsCopiedSoFar, AreApart, situation_of, state_of, handover_of}
+use Rattle.ghes_ack.specs.OwnTurns.{firmware_at, reader_at}
+use Rattle.ghes_ack.specs.Sides.{IsCopiedSoFar, AreApart, situation_of, state_of}
 use Rattle.ghes_ack.specs.declared.window_blocks.Blocks.{Blocks}
 use Rattle.ghes_ack.specs.WindowQueues.{HasRoom, count_of}
 use Rattle.ghes_ack.specs.Pieces.{read_over}
@@ -19,8 +20,8 @@ use Rattle.ghes_ack.specs.declared.ends.FirmwareEnd.TheVariants.{Writes, Waits}
 use Rattle.ghes_ack.specs.declared.ends.ReaderEnd.{ReaderEnd}
 use Rattle.ghes_ack.specs.declared.ends.ReaderEnd.TheVariants.{Looks, Reads, Acknowledges}
 use Rattle.ghes_hub.specs.Kinds.{ByStatus, turned_by}
-use Rattle.ghes_ack.specs.Windows.{block_bytes, HasAddressed}
-use Rattle.ghes_hub.specs.Plain.{PlainState, PlainStands, plain_status, plain_window_of, with_plain_window}
+use Rattle.ghes_ack.specs.Windows.{block_bytes, HasAddressed, block_status, with_block}
+use Rattle.ghes_hub.specs.Plain.{PlainState, PlainStands}
 
 -- the block at work in each situation
 abbrev pub IsUnderWay : Situation → Blocks PlainMap → Type 0
@@ -33,7 +34,7 @@ IsUnderWay Acknowledged b = b.at_work ≡ None
 -- the blocks are as they must be in a situation
 pub record IsSound (situation : Situation) (b : Blocks PlainMap) : Type 0 where
   pub short : b.map.window.len < 2 ^ 32
-  pub room : HasRoom plain_window_of 0 b
+  pub room : HasRoom (λ map. map.window) 0 b
   pub under_way : IsUnderWay situation b
 
 -- the sides and the blocks belong together
@@ -46,38 +47,23 @@ abbrev pub AreConsistent : Option Ends → Blocks PlainMap → Type 0
 AreConsistent None b = ⊥
 AreConsistent (Some ends) b = IsConsistent ends b
 
--- it stands for some state
-abbrev pub Stands : PlainState → RamState → Type 0
-Stands h ram = (m : Machine) × PlainStands h ram m
-
 -- a turn, from a state of the machine: the machine's event, and afterwards it stands for the machine's next state; of the memory
 -- the block's window alone is another
 pub record Turns (side : Side) (event : Event) (old new : WithMemory PlainState) (m : Machine) : Type 0 where
   pub event_is : event ≡ (turned_by ByStatus side m).0
   pub stands : PlainStands new.state new.memory (turned_by ByStatus side m).1
   pub map : new.state.map ≡ old.state.map
-  pub memory_is : new.memory ≡ with_plain_window old.state.map old.memory (block_bytes old.state.map.window new.memory)
-
--- both sides after a turn of one of them
-pub record SideDone (side : Side) (event : Event) (ends next : Ends) (old new : Blocks PlainMap) (ram memory : RamState) : Type 0 where
-  pub consistent : IsConsistent next new
-  pub turns : (m : Machine) → PlainStands (handover_of ends old) ram m
-      → Turns side event (over (handover_of ends old) ram) (over (handover_of next new) memory) m
-
--- the situation that the firmware's end leaves, from one in which it wrote
-abbrev pub firmware_at : FirmwareEnd → Situation
-firmware_at (Writes write) = Filling
-firmware_at (Waits wait) = Published
+  pub memory_is : new.memory ≡ with_block old.state.map.window old.memory (block_bytes old.state.map.window new.memory)
 
 -- the firmware can make a turn
 abbrev pub FirmwareIsAble : FirmwareEnd → Blocks PlainMap → RamState → Type 0
-FirmwareIsAble (Writes write) b ram = IsSound Filling b × Stands (state_of Filling b) ram
+FirmwareIsAble (Writes write) b ram = IsSound Filling b × ((m : Machine) × PlainStands (state_of Filling b) ram m)
 FirmwareIsAble (Waits wait) b ram = HasAddressed b.map.status b.map.window ram
 
 -- a turn of a firmware that waits: the block is its own again exactly where the block status is 0
 abbrev pub FindsClear : PlainMap → RamState → Event → FirmwareEnd → Type 0
-FindsClear map ram event (Writes write) = (plain_status map ram ≡ 0) × (event ≡ Free)
-FindsClear map ram event (Waits wait) = (0 < plain_status map ram) × (event ≡ Wait)
+FindsClear map ram event (Writes write) = (block_status map.window ram ≡ 0) × (event ≡ Free)
+FindsClear map ram event (Waits wait) = (0 < block_status map.window ram) × (event ≡ Wait)
 
 -- a turn of the firmware, whatever the reader does
 abbrev pub FirmwareTurns : FirmwareEnd → WithMemory (Blocks PlainMap) → Event → FirmwareEnd → WithMemory (Blocks PlainMap) → Type 0
@@ -87,26 +73,17 @@ FirmwareTurns (Writes write) old event end new =
 FirmwareTurns (Waits wait) old event end new =
     FindsClear old.state.map old.memory event end × (new.state ≡ old.state) × (new.memory ≡ old.memory)
 
--- the situation that the reader's end leaves, from one in which it read
-abbrev pub reader_at : ReaderEnd → Situation
-reader_at (Looks look) = Acknowledged
-reader_at (Reads read) = Reading
-reader_at (Acknowledges end) = Cleared
-
--- the block at work, if any, fits into the window
-abbrev pub HasFittingWork : Blocks PlainMap → Type 0
-HasFittingWork b = IfSome b.at_work (λ block. length block.items ≤ b.map.window.len)
-
 -- the reader can make a turn
 abbrev pub ReaderIsAble : ReaderEnd → Blocks PlainMap → RamState → Type 0
 ReaderIsAble (Looks look) b ram = HasAddressed b.map.status b.map.window ram
-ReaderIsAble (Reads read) b ram = IsSound Reading b × HasAddressed b.map.status b.map.window ram × HasFittingWork b
+ReaderIsAble (Reads read) b ram =
+    IsSound Reading b × HasAddressed b.map.status b.map.window ram × IfSome b.at_work (λ block. length block.items ≤ b.map.window.len)
 ReaderIsAble (Acknowledges end) b ram = ⊥
 
 -- a turn of a reader that looks for a block: there is one exactly where the block status isn't 0, and none of its pieces is copied
 abbrev pub FindsBlock : Blocks PlainMap → RamState → Event → ReaderEnd → Blocks PlainMap → Type 0
-FindsBlock old ram event (Looks look) new = (plain_status old.map ram ≡ 0) × (event ≡ Nothing) × (new ≡ old)
-FindsBlock old ram event (Reads read) new = (0 < plain_status old.map ram) × (event ≡ Found) × (new ≡ record old { copied = 0 })
+FindsBlock old ram event (Looks look) new = (block_status old.map.window ram ≡ 0) × (event ≡ Nothing) × (new ≡ old)
+FindsBlock old ram event (Reads read) new = (0 < block_status old.map.window ram) × (event ≡ Found) × (new ≡ record old { copied = 0 })
 FindsBlock old ram event (Acknowledges end) new = ⊥
 
 -- the block at work with the window's next piece in its place
@@ -121,7 +98,7 @@ pub data ReaderMakes (old : PlainState) (ram : RamState) (event : Event) (new : 
       new ≡ record old { at_work = Some (with_next_piece old ram block); copied = old.copied + 1; last = with_next_piece old ram block } →
       memory ≡ ram → ReaderMakes old ram event new memory
   Clears : (block : List ℕ) → old.at_work ≡ Some block → length block ≤ 64 * old.copied → event ≡ Clear →
-      new ≡ record old { situation = Acknowledged; at_work = None } → memory ≡ with_plain_window old.map ram (with_status (block_bytes old.map.window ram) (spelled 4 0)) →
+      new ≡ record old { situation = Acknowledged; at_work = None } → memory ≡ with_block old.map.window ram (with_status (block_bytes old.map.window ram) (spelled 4 0)) →
       ReaderMakes old ram event new memory
 
 -- a turn of the reader, whatever the firmware does

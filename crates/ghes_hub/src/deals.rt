@@ -2,7 +2,7 @@
 ghost use Rattle.std.specs.Prelude.{◌≡◌, ◌<◌, ◌≤◌, ◌+◌, ◌++◌, length, IfOk, vec_len, vec_capacity, [], map};
 ghost use Rattle.apei_notify.specs.Chains.{members_of};
 ghost use Rattle.ghes_hub.specs.Chains.{in_order};
-ghost use Rattle.ghes_hub.specs.Deals.{AreDealt, AreEmpty, item_lists};
+ghost use Rattle.ghes_hub.specs.Deals.{AreDealt, AreEmpty};
 
 use apei_bytes::OutOfMemory;
 use apei_notify::{Chain, Listener};
@@ -42,7 +42,7 @@ pub fn deal(lists: &mut Vec<Vec<Box<dyn Listener>>>, listeners: Vec<Box<dyn List
 pub fn chains(lists: Vec<Vec<Box<dyn Listener>>>, chains: &mut Vec<Chain>)
     requires none { chains.old.items ≡ [] }
     requires room { length lists.items ≤ vec_capacity chains.old }
-    ensures { map members_of chains.new.items ≡ item_lists lists.items }
+    ensures { map members_of chains.new.items ≡ map (λ list. list.items) lists.items }
 {
     for list in lists {
         chains.push_reserved(Chain::new(list));

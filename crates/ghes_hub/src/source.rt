@@ -5,7 +5,7 @@ ghost use Rattle.ghes_ack.specs.Machine.{Machine, started, submitted};
 ghost use Rattle.ghes_ack.specs.Elsewhere.{SameWhere};
 ghost use Rattle.ghes_hub.specs.Layouts.{HasLayout, layout_kind, layout_windows, layout_window};
 ghost use Rattle.ghes_hub.specs.Places.{IsOff};
-ghost use Rattle.ghes_hub.specs.OneSource.{SourceStands, Stands, SamePlaces, SourceTurned, layout_in, windows_of, last_of, waiting_of, refusal_of};
+ghost use Rattle.ghes_hub.specs.OneSource.{SourceStands, SourceTurned, layout_in, last_of, waiting_of, refusal_of};
 
 use crate::layouts::Layout;
 use crate::plain::PlainHandover;
@@ -27,7 +27,7 @@ impl Source {
         ensures stands { IfOk result (λ handover. SourceStands handover ram.new
             (started (layout_window layout ram.old))) }
         ensures layout { IfOk result (λ handover. layout_in handover ≡ layout) }
-        ensures windows { IfOk result (λ handover. windows_of handover ≡ layout_windows layout) }
+        ensures windows { IfOk result (λ handover. layout_windows (layout_in handover) ≡ layout_windows layout) }
         ensures elsewhere { SameWhere (IsOff (layout_windows layout)) ram.old ram.new }
     {
         match layout {
@@ -42,7 +42,7 @@ impl Source {
         ensures number { IfOk result (λ waiting. waiting ≡ length (waiting_of self.new)) }
         ensures exact { MatchResult result (λ _. refusal_of self.old block.now ≡ None)
             (λ error. refusal_of self.old block.now ≡ Some error) }
-        ensures places { SamePlaces self.old self.new }
+        ensures places { layout_in self.new ≡ layout_in self.old }
         ensures refused { OnErr result (self.new ≡ self.old) }
     {
         match self {
@@ -52,11 +52,11 @@ impl Source {
     }
 
     pub fn turn(&mut self, side: Side, ram: &mut Ram) -> Event
-        requires { Stands self.old ram.old }
+        requires { (m : Machine) × SourceStands self.old ram.old m }
         ensures turned { (m : Machine) → SourceStands self.old ram.old m
             → SourceTurned (layout_kind (layout_in self.old)) side result self.new ram.new m }
-        ensures elsewhere { SameWhere (IsOff (windows_of self.old)) ram.old ram.new }
-        ensures places { SamePlaces self.old self.new }
+        ensures elsewhere { SameWhere (IsOff (layout_windows (layout_in self.old))) ram.old ram.new }
+        ensures places { layout_in self.new ≡ layout_in self.old }
     {
         match self {
             Source::Acknowledged(handover) => handover.turn(side, ram),

@@ -7,7 +7,8 @@ use Rattle.script_lines.proofs.KeywordLemmas.{IsLanguage, one_of_all, language}
 use Rattle.script_lines.proofs.PairLemmas.{one_pair}
 use Rattle.hub_script.specs.Turns.{may_stand, AreTurns}
 use Rattle.hub_script.specs.HubGrammar.{Line, IsLine, IsValid, text_of, blank, comment, hest, error, turns, heard, removal}
-use Rattle.hub_script.specs.HubWords.{codes_of, Follows}
+use Rattle.hub_script.proofs.Terms.{Follows}
+use Rattle.hub_script.proofs.Terms.{codes_of}
 use Rattle.hub_script.specs.declared.hub_line.HubWord.{HubWord}
 use Rattle.hub_script.specs.declared.hub_line.HubWord.TheVariants.{Comment, Hest, Error, Turns, Heard, Drop}
 

@@ -4,7 +4,7 @@ use Rattle.std.specs.Prelude.{decimal}
 use Rattle.std.proofs.lemmas.Fmt.{decimal_injective}
 use Rattle.script_lines.proofs.OneLine.{IsReading as IsReadingOf, one_line as one_line_of, same_then}
 use Rattle.hub_script.specs.HubGrammar.{Line, IsValid, text_of, blank, comment, hest, error, turns, heard, removal}
-use Rattle.hub_script.specs.HubWords.{codes_of}
+use Rattle.hub_script.proofs.Terms.{codes_of}
 use Rattle.hub_script.specs.declared.hub_line.HubWord.{HubWord}
 use Rattle.hub_script.specs.declared.hub_line.HubWord.TheVariants.{Comment, Hest, Error, Turns, Heard, Drop}
 use Rattle.hub_script.proofs.LineLemmas.{all_words, alone}

@@ -18,7 +18,8 @@ use Rattle.hub_script.specs.Stages.{HubStage, Waiting, members_in}
 use Rattle.hub_script.specs.Plays.{Plays}
 use Rattle.hub_script.specs.Lines.{PlaysLine, PlaysUnwritten, TextIs}
 use Rattle.hub_script.proofs.Terms.{GivesTable}
-use Rattle.hub_script.specs.History.{Played, Follows, text_of_played}
+use Rattle.hub_script.specs.History.{Played, Follows}
+use Rattle.hub_script.proofs.Terms.{text_of_played}
 use Rattle.hub_script.specs.Scripts.{IsUnwritten, PlaysScript, ServesScript}
 use Rattle.script_lines.specs.Ends.{EndsReading, fault_of}
 use Rattle.script_lines.specs.declared.ending.ScriptEnd.{ScriptEnd}

@@ -1,6 +1,6 @@
 -- Lines of one reply, by whether there is a hub.
 use Rattle.std.proofs.Common.{◌≡◌, ◌∙◌, ℕ, zero, suc, ◌-◌, ◌*◌, ◌^◌, ◌<◌, ◌≤◌, min, true, false, List, [], ◌∷◌, ◌++◌, length, take, Option, Some, None, is_some, Ok, Vec, refl, sym, ap, subst, arith}
-use Rattle.std.specs.Prelude.{IfSome, slice_get, codes, decimal}
+use Rattle.std.specs.Prelude.{IfSome, slice_get, codes, decimal, get_or}
 use Rattle.std.specs.declared.alloc.Global.{Global}
 use Rattle.std.specs.declared.dyn_box.DynBox.{DynBox}
 use Rattle.std.proofs.lemmas.List.{length-take, take_min, length-map}
@@ -30,7 +30,7 @@ use Rattle.hub_script.specs.Replies.{refused, reply_line, words_of_heard}
 use Rattle.hub_script.proofs.Terms.{words_of_opened, words_of_queued}
 use Rattle.script_lines.specs.Streams.{stream_of}
 use Rattle.hub_script.specs.Stages.{HubStage, Waiting, Serving, stage_in}
-use Rattle.hub_script.specs.Plays.{Plays, listed, named_at, NoTable, NoOpening, Opened, IsOpenAlready, NoSource, NotTaken, Queued, NotNamed, NoneToCount, Counted, NoneToDrop, NoListener, Dropped}
+use Rattle.hub_script.specs.Plays.{Plays, listed, NoTable, NoOpening, Opened, IsOpenAlready, NoSource, NotTaken, Queued, NotNamed, NoneToCount, Counted, NoneToDrop, NoListener, Dropped, source_of}
 use Rattle.hub_script.specs.Made.{MakesReply, OpensFor, NotOpened, IsOpen}
 use Rattle.script_text.specs.Shown.{IsPartWritten}
 use Rattle.hub_script.specs.Lines.{PlaysLine, PlaysUnwritten}
@@ -198,7 +198,7 @@ module _ {L : Type 0} (hearing : L → Hearing) (hub : HubState L) where
         text = is ∙ ap (λ (k : ℕ). reply_line (words_of_queued k)) (if_some (slice_get new.sources.list source) then.0 (λ (handover : Source). n ≡ length (waiting_of handover)) then.1 number);
       }
 
-  pub nobody_turned : (pairs reply : List ℕ) (at : ℕ) → 2 * at < length pairs → sources_in hub ≤ named_at pairs at → reply ≡ reply_line (refused (words_of_refusal Nobody)) → MakesReply hearing (Serving hub) (turns pairs) (Serving hub) reply
+  pub nobody_turned : (pairs reply : List ℕ) (at : ℕ) → 2 * at < length pairs → sources_in hub ≤ source_of (get_or pairs (2 * at) 0) → reply ≡ reply_line (refused (words_of_refusal Nobody)) → MakesReply hearing (Serving hub) (turns pairs) (Serving hub) reply
   nobody_turned pairs reply at within none is = refuses hearing (Serving hub) (turns pairs) (refused (words_of_refusal Nobody)) reply (NotNamed at within none) is
 
   pub nobody_heard : (source : ℕ) (reply : List ℕ) → sources_in hub ≤ source → reply ≡ reply_line (refused (words_of_refusal Nobody)) → MakesReply hearing (Serving hub) (heard source) (Serving hub) reply

@@ -1,6 +1,5 @@
 -- Lines that were played one after another.
 use Rattle.std.specs.Prelude.{◌≡◌, ℕ, List, [], ◌∷◌, Some, slice_get}
-use Rattle.std.specs.List.{flat_map}
 use Rattle.apei_notify.specs.Telling.{Hearing}
 use Rattle.hest_sources.specs.declared.sources.Ghes.{Ghes}
 use Rattle.hest_sources.specs.declared.sources.HestSource.{HestSource}
@@ -8,7 +7,6 @@ use Rattle.ghes_hub.specs.Hubs.{HubState, Call, DoAll, Serves}
 use Rattle.ghes_hub.specs.Opens.{IsOpened, opened_source}
 use Rattle.ghes_hub.specs.Refusals.{generics}
 use Rattle.hub_script.specs.HubGrammar.{Line}
-use Rattle.hub_script.specs.Replies.{text_of_replies}
 use Rattle.hub_script.specs.Stages.{HubStage, Waiting, Serving}
 use Rattle.hub_script.specs.Plays.{Plays}
 
@@ -23,10 +21,6 @@ pub record Played (L : Type 0) : Type 0 where
 abbrev pub Follows : {L : Type 0} → (L → Hearing) → HubStage L → List (Played L) → HubStage L → Type 0
 Follows hearing first [] last = last ≡ first
 Follows hearing first (played ∷ rest) last = Plays hearing first played.line played.said played.calls played.left × Follows hearing played.left rest last
-
--- all replies as they are written
-abbrev pub text_of_played : {L : Type 0} → List (Played L) → List ℕ
-text_of_played {L} lines = flat_map (λ (played : Played L). text_of_replies played.said) lines
 
 -- What became of the listeners that a script was given, and of the blocks of which they were told. No hub was opened, and they wait; or one
 -- was opened for a table, and each of its sources is served as its own blocks, turns and removals alone say, whatever stands between

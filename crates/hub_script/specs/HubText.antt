@@ -1,10 +1,8 @@
 -- What a text is read as.
-use Rattle.std.specs.Prelude.{◌≡◌, ℕ, ◌⊎◌, List, ◌++◌}
+use Rattle.std.specs.Prelude.{◌≡◌, ℕ, ◌⊎◌, List}
 use Rattle.hub_script.specs.HubGrammar.{Line, IsValid, text_of, blank, comment, hest, error, turns, heard, removal}
-use Rattle.hub_script.specs.HubWords.{codes_of}
 use Rattle.hub_script.specs.declared.hub_line.HubLine.{HubLine}
 use Rattle.hub_script.specs.declared.hub_line.HubLine.TheVariants.{Blank, Hest, Error, Turns, Heard, Drop}
-use Rattle.hub_script.specs.declared.hub_line.HubWord.{HubWord}
 
 -- the line that is meant
 abbrev pub line_of : HubLine → Line
@@ -23,7 +21,3 @@ IsWritten text line = IsValid line × (text ≡ text_of line)
 abbrev pub IsText : List ℕ → HubLine → Type 0
 IsText text Blank = IsWritten text blank ⊎ ((rest : List ℕ) × IsWritten text (comment rest))
 IsText text line = IsWritten text (line_of line)
-
--- a word and what follows it are this line
-abbrev pub IsTextBehind : HubWord → List ℕ → HubLine → Type 0
-IsTextBehind word rest line = IsText (codes_of word ++ rest) line

@@ -13,9 +13,3 @@ form_of Error = (codes "error ", IsNumberThen (2 ^ 64 - 1) IsPairs)
 form_of Turns = (codes "turns ", AreTurns)
 form_of Heard = (codes "heard ", IsNumber 0 (2 ^ 64 - 1))
 form_of Drop = (codes "drop ", AreTwoNumbers (2 ^ 64 - 1) 0 (2 ^ 64 - 1))
-
-abbrev pub codes_of : HubWord → List ℕ
-codes_of word = (form_of word).0
-
-abbrev pub Follows : HubWord → List ℕ → Type 0
-Follows word = (form_of word).1

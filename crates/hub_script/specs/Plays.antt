@@ -25,10 +25,6 @@ use Rattle.hub_script.specs.declared.refusals.HubRefusal.TheVariants.{Open, Tabl
 abbrev pub source_of : ℕ → ℕ
 source_of digit = if nat_lt digit 58 then digit - 48 else digit - 87
 
--- the source that pair number `at` of some turns names
-abbrev pub named_at : List ℕ → ℕ → ℕ
-named_at pairs at = source_of (get_or pairs (2 * at) 0)
-
 -- the listeners of a source that a hub counts
 unfoldable pub listed : {L : Type 0} → List L → List L
 listed members = take (2 ^ 32 - 1) members
@@ -45,7 +41,7 @@ pub data Turned {L : Type 0} (hearing : L → Hearing) (old : HubState L) : List
 
 -- each pair of some turns names a source
 abbrev pub AllNamed : {L : Type 0} → HubState L → List ℕ → Type 0
-AllNamed hub pairs = (at : ℕ) → 2 * at < length pairs → named_at pairs at < sources_in hub
+AllNamed hub pairs = (at : ℕ) → 2 * at < length pairs → source_of (get_or pairs (2 * at) 0) < sources_in hub
 
 -- What a line makes of a stage. Until a hub is opened the listeners wait for a table, and what is asked of a hub is refused
 pub data Plays {L : Type 0} (hearing : L → Hearing) : HubStage L → Line → List (List ℕ) → List Call → HubStage L → Type 0 where
@@ -78,7 +74,7 @@ pub data Plays {L : Type 0} (hearing : L → Hearing) : HubStage L → Line → 
   -- turns, none of which is made where a pair names no source
   NoHubForTurns : {listeners : List L} {pairs : List ℕ}
       → Plays hearing (Waiting listeners) (turns pairs) (refused (words_of_refusal NoHub) ∷ []) [] (Waiting listeners)
-  NotNamed : {hub : HubState L} {pairs : List ℕ} (at : ℕ) → 2 * at < length pairs → sources_in hub ≤ named_at pairs at
+  NotNamed : {hub : HubState L} {pairs : List ℕ} (at : ℕ) → 2 * at < length pairs → sources_in hub ≤ source_of (get_or pairs (2 * at) 0)
       → Plays hearing (Serving hub) (turns pairs) (refused (words_of_refusal Nobody) ∷ []) [] (Serving hub)
   AllTurned : {hub : HubState L} {pairs : List ℕ} (calls : List Call) (events : List Event) (said : List (List ℕ)) (new : HubState L)
       → AllNamed hub pairs → Turned hearing hub pairs calls events said new

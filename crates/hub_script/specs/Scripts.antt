@@ -11,7 +11,7 @@ use Rattle.hub_script.specs.Replies.{text_of_replies, reply_line}
 use Rattle.script_lines.specs.Streams.{Stream}
 use Rattle.hub_script.specs.Stages.{HubStage, Waiting, members_in}
 use Rattle.hub_script.specs.Lines.{IsLeft, BringsTable}
-use Rattle.hub_script.specs.History.{Played, Follows, AreServed, text_of_played}
+use Rattle.hub_script.specs.History.{Played, Follows, AreServed}
 use Rattle.script_lines.specs.declared.ending.ScriptEnd.{ScriptEnd}
 use Rattle.script_lines.specs.declared.ending.ScriptEnd.TheVariants.{Memory}
 
@@ -27,7 +27,8 @@ pub record IsUnwritten {L : Type 0} (hearing : L → Hearing) (sink : Stream) (o
   pub unwritten : List ℕ
   pub left : IsLeft behind line last.line last.said before unwritten
   pub wrote : sink.tells
-      → (n : ℕ) × (sink.after ≡ (sink.before ++ text_of_played first) ++ text_of_replies before ++ take n (reply_line unwritten))
+      → (n : ℕ) × (sink.after ≡ (sink.before ++ flat_map (λ (played : Played L). text_of_replies played.said) first)
+      ++ text_of_replies before ++ take n (reply_line unwritten))
 
 -- Lines of a script were played from a stage on, and their replies written; but where the sink failed, the last in part. Memory is taken for one line
 -- alone, that gives a table, and it was wanting only while no hub was open
@@ -38,7 +39,8 @@ pub record PlaysScript {L : Type 0} (hearing : L → Hearing) (source sink : Str
   pub played : List (Played L)
   pub follows : Follows hearing old played new
   pub are : PlaysByFault (λ (text : List ℕ) (one : Played L). IsWritten text one.line) (IsUnwritten hearing sink old)
-      (λ (all : List (Played L)). sink.tells → sink.after ≡ sink.before ++ text_of_played all) lines played (fault_of ending)
+      (λ (all : List (Played L)). sink.tells → sink.after ≡ sink.before ++ flat_map (λ (played : Played L). text_of_replies played.said) all)
+      lines played (fault_of ending)
   pub waits : ending ≡ Memory → (listeners : List L) × (new ≡ Waiting listeners)
 
 -- a script was played from its start on, and its listeners came back

@@ -1,10 +1,10 @@
 // A line of a script of several error sources.
-ghost use Rattle.std.specs.Prelude.{◌+◌, ◌≤◌, length, MatchResult};
+ghost use Rattle.std.specs.Prelude.{◌+◌, ◌≤◌, length, MatchResult, ◌++◌};
 ghost use Rattle.script_lines.specs.Columns.{Breaks, BreaksAt};
 ghost use Rattle.script_lines.specs.declared.lengths.TheConstants.{LONGEST_LINE};
 ghost use Rattle.hub_script.specs.HubGrammar.{IsLine};
-ghost use Rattle.hub_script.specs.HubText.{IsText, IsTextBehind};
-ghost use Rattle.hub_script.specs.HubWords.{codes_of, Follows};
+ghost use Rattle.hub_script.specs.HubText.{IsText};
+ghost use Rattle.hub_script.specs.HubWords.{form_of};
 
 use crate::parts::{number_and_pairs, turns};
 use script_lines::{Keyword, keyword_of, number, pairs, two_numbers};
@@ -46,7 +46,7 @@ const HUB_WORDS: [HubWord; 6] = [
 ];
 
 impl Keyword for HubWord {
-    ghost codes = { codes_of };
+    ghost codes = { λ word. (form_of word).0 };
 
     fn bytes(self) -> &'static [u8] {
         match self {
@@ -93,8 +93,8 @@ impl HubLine<'_> {
 
     // The line of a keyword and what follows it.
     fn from_parts(word: HubWord, rest: &[u8]) -> Result<HubLine<'_>, usize>
-        ensures { MatchResult result (λ line. IsTextBehind word rest.now line)
-            (λ reach. Breaks (Follows word) rest.now reach) }
+        ensures { MatchResult result (λ line. IsText ((form_of word).0 ++ rest.now) line)
+            (λ reach. Breaks (form_of word).1 rest.now reach) }
     {
         match word {
             HubWord::Comment => Ok(HubLine::Blank),

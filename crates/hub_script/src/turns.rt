@@ -1,13 +1,12 @@
 // Turns of a hub's sources.
-ghost use Rattle.std.specs.Prelude.{◌≡◌, ◌+◌, ◌*◌, ◌<◌, ◌≤◌, ◌++◌, ℕ, length, map, codes, MatchBool, OnOk, OnErr, IfOk};
+ghost use Rattle.std.specs.Prelude.{◌≡◌, ◌+◌, ◌*◌, ◌<◌, ◌≤◌, ◌++◌, ℕ, length, map, codes, MatchBool, OnOk, OnErr, IfOk, get_or};
 ghost use Rattle.base_model.specs.Faults.{HasCause};
 ghost use Rattle.apei_notify.specs.Chains.{boxed};
 ghost use Rattle.ghes_ack.specs.declared.events.Event.TheVariants.{Took};
-ghost use Rattle.ghes_hub.specs.{Hubs.sources_in, Hubs.HubTurns, Hubs.last_in, Runs.takes, Runs.told_at, Seen.seen};
 ghost use Rattle.hub_script.specs.HubGrammar.{turns};
 ghost use Rattle.hub_script.specs.Turns.{AreTurns};
 ghost use Rattle.hub_script.specs.Stages.{Serving};
-ghost use Rattle.hub_script.specs.Plays.{source_of, named_at, AllNamed};
+ghost use Rattle.hub_script.specs.Plays.{source_of, AllNamed};
 ghost use Rattle.hub_script.specs.Lines.{PlaysLine, PlaysUnwritten};
 ghost use Rattle.hub_script.specs.Replies.{word_of, words_of_block, text_of_replies, reply_line};
 ghost use Rattle.script_lines.specs.Streams.{stream_of};
@@ -39,7 +38,7 @@ fn source_of(digit: u8) -> u32
 pub fn are_named(hub: &Hub, pairs: &[u8]) -> bool
     requires { AreTurns pairs.now }
     ensures { MatchBool result (AllNamed (seen hub.now) pairs.now)
-        ((at : ℕ) × (2 * at < length pairs.now) × (sources_in (seen hub.now) ≤ named_at pairs.now at)) }
+        ((at : ℕ) × (2 * at < length pairs.now) × (sources_in (seen hub.now) ≤ source_of (get_or pairs.now (2 * at) 0))) }
 {
     'naming: for at in 0..pairs.len() / 2 {
         if source_of(pairs[2 * at]) >= hub.sources() {

@@ -16,6 +16,7 @@ use Rattle.erst_entries.proofs.Finding.{is_erst, fits_erst, only, not_refused, s
 use Rattle.item_parts.specs.declared.parts.Part.{Part}
 use Rattle.item_parts.specs.Parts.{entry_part, entry_parts}
 use Rattle.item_parts.specs.Items.{Begins, ErstParts}
+use Rattle.erst_entries.proofs.Terms.{entries_spelling}
 
 pub length-entry_parts : (at : ℕ) (entries : List Entry) → length (entry_parts at entries) ≡ length entries
 length-entry_parts at [] = refl

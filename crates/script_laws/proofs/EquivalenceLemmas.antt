@@ -1,6 +1,6 @@
 -- The same lines of two players that are equivalent.
-use Rattle.std.specs.Prelude.{not, if◌then◌else◌, codes}
-use Rattle.std.specs.List.{flat_map}
+use Rattle.std.specs.Prelude.{not, if◌then◌else◌, codes, ◌-◌, ◌^◌, ◌==◌, min}
+use Rattle.std.specs.List.{flat_map, AllZip}
 use Rattle.std.proofs.Common.{◌≡◌, inl, inr, ℕ, ◌+◌, ◌*◌, Bool, true, false, List, [], ◌∷◌, ◌++◌, decimal, length, map, Option, Some, None, Result, Ok, Err, refl, sym, ap, subst, ◌∙◌}
 use Rattle.std.proofs.lemmas.Option.{none-some, same_Some}
 use Rattle.base_model.specs.Faults.{Rose}
@@ -46,14 +46,14 @@ use Rattle.erst_bridge.specs.Made.{sides_in}
 use Rattle.erst_bridge.specs.EquivalentSteps.{StepOutline, step_outline, EquivalentSteps}
 use Rattle.script_text.specs.TableWords.{words_of_erst}
 use Rattle.script_text.specs.ScriptGrammar.{Line, blank, write, read, clear, count, next, dummy, action, table, own_table, shadow_table, turns, bert, heard, reset, power, bridge}
-use Rattle.erst_shadow.specs.ShadowTables.{scratch_at, pieces_of, shadow_count, shadow_erst}
+use Rattle.erst_shadow.specs.ShadowTables.{pieces_of, shadow_count, shadow_erst}
 use Rattle.erst_shadow.specs.ShadowCommands.{pieces_in, shadow_client}
-use Rattle.apei_script.specs.Players.{PlayerState, client_of, budget_of}
-use Rattle.apei_script.specs.Words.{Reply, at_step, said_at, text_of_replies, refused, words_of_write, words_of_read, words_of_clear, words_of_count, words_of_next, words_of_dummy, words_of_action, words_of_table, words_of_record, words_of_turns, words_of_block, words_of_bert}
+use Rattle.apei_script.specs.Players.{PlayerState, client_of, budget_of, own_player}
+use Rattle.apei_script.specs.Words.{Reply, at_step, said_at, text_of_replies, refused, words_of_write, words_of_read, words_of_clear, words_of_count, words_of_next, words_of_dummy, words_of_action, words_of_table, words_of_turns, words_of_block}
 use Rattle.apei_script.specs.Tables.{ATTACH_STEPS, BeginsWith}
 use Rattle.apei_script.proofs.ShadowGiving.{GivesShadow}
 use Rattle.apei_script.specs.Bridged.{bridge_refusal, words_of_turn, words_of_steps, block_of, replies_of}
-use Rattle.apei_script.specs.Plays.{Plays, changes_in, step_of, played_as}
+use Rattle.apei_script.specs.Plays.{Plays, changes_in, played_as}
 use Rattle.script_laws.specs.History.{Played, heard_of, heard_after, Follows, text_of, reply_of}
 use Rattle.script_laws.specs.Equivalence.{EquivalentPlayers, own_player, WantAlike, lines_in, said_in, taken_in, PlayedAlike}
 use Rattle.apei_script.proofs.PlayLemmas.{with_machine}
@@ -63,6 +63,9 @@ use Rattle.script_laws.proofs.LineKinds.{restarted, Left, AskedBy, HappenedBy, w
 use Rattle.apei_script.proofs.OneEvent.{words_told, asks_once, same_bytes, once}
 use Rattle.apei_script.proofs.BridgeLemmas.{blocks_in, block_replies}
 use Rattle.erst_bridge.proofs.Terms.{last_of}
+use Rattle.erst_shadow.proofs.Terms.{scratch_at}
+use Rattle.hex.specs.Hex.{encode_lower}
+use Rattle.erst_commands.specs.Writes.{id_of}
 
 abbrev faults_of : MachineState → ℕ
 faults_of state = state.device.store.flash.faults
@@ -70,7 +73,7 @@ faults_of state = state.device.store.flash.faults
 -- The same words
 
 same_read_words : (result also : Result ℕ ClientError) (after afterwards : List ℕ) → result ≡ also → record_in result after ≡ record_in also afterwards → words_of_read after result ≡ words_of_read afterwards also
-same_read_words (Ok size) (Ok len) after afterwards same bytes = ap words_of_record bytes
+same_read_words (Ok size) (Ok len) after afterwards same bytes = ap (λ bytes. codes "record " ++ decimal (id_of bytes) ++ codes " " ++ decimal (length bytes) ++ codes " " ++ encode_lower bytes) bytes
 same_read_words (Ok size) (Err why) after afterwards same bytes = absurd (cc)
 same_read_words (Err found) (Ok len) after afterwards same bytes = absurd (cc)
 same_read_words (Err found) (Err why) after afterwards same bytes = ap (words_of_read after) same
@@ -192,7 +195,7 @@ module _ (tells : Type 0) (told : tells) where
       let laid = subst (λ (r : List ℕ). IsLaidOut second.0 second.1 r) bytes second.5 in
       let blocks_are = (one_list first.0 second.0 first.1 second.1 one.memory.region first.5 laid).0 in
       record {
-        same = first.2 ∙ ap (λ (bs : List (List ℕ)). map words_of_block bs ++ words_of_bert (length bs) ∷ []) blocks_are ∙ sym second.2;
+        same = first.2 ∙ ap (λ (bs : List (List ℕ)). map words_of_block bs ++ (codes "bert " ++ decimal (length bs)) ∷ []) blocks_are ∙ sym second.2;
         taken = first.3 ∙ sym second.3;
         equivalent = ap machine_outline first.4 ∙ equivalent ∙ sym (ap machine_outline second.4);
       }
@@ -363,7 +366,7 @@ module _ (tells : Type 0) (told : tells) where
         (record old { machine = first.2; other = first.3 }) (record counterpart { machine = second.2; other = second.3 })
         first.6 second.6 (same_said first.2 second.2 (first.1 ∷ []) (second.1 ∷ []) ends.equivalent (ap (λ (ws : List ℕ). ws ∷ []) ends.same)) refl (players_with first.3 second.3 first.2 second.2 ends.equivalent ends.others)
     other_alike own_table said also_said blocks also_blocks new also_new first quiet second also_quiet =
-        close said also_said blocks also_blocks (said_at (step_of old) (words_of_table (length old.own.table.entries) ∷ [])) (said_at (changes_in machine_too) (words_of_table (length old.own.table.entries) ∷ [])) [] []
+        close said also_said blocks also_blocks (said_at (changes_in old.machine) (words_of_table (length old.own.table.entries) ∷ [])) (said_at (changes_in machine_too) (words_of_table (length old.own.table.entries) ∷ [])) [] []
         new also_new (record old { other = None }) (record counterpart { other = None }) first second
         (same_said old.machine machine_too (words_of_table (length old.own.table.entries) ∷ []) (words_of_table (length old.own.table.entries) ∷ []) equivalent refl) refl (players_with None None old.machine machine_too equivalent refl)
     other_alike shadow_table said also_said blocks also_blocks new also_new first quiet second also_quiet =
@@ -407,7 +410,7 @@ module _ (tells : Type 0) (told : tells) where
         → PlaysAs tells words asks old line said blocks new → FailedNothing old.machine new.machine → PlaysAs tells also_words asks counterpart line also_said also_blocks also_new → FailedNothing machine_too also_new.machine
         → LineAlike said also_said blocks also_blocks new also_new
     as_alike line (Some words) (Some others) asks said also_said blocks also_blocks new also_new same first quiet second also_quiet =
-        close said also_said blocks also_blocks (said_at (step_of old) (words ∷ [])) (said_at (changes_in machine_too) (others ∷ [])) [] [] new also_new old counterpart first second
+        close said also_said blocks also_blocks (said_at (changes_in old.machine) (words ∷ [])) (said_at (changes_in machine_too) (others ∷ [])) [] [] new also_new old counterpart first second
         (same_said old.machine machine_too (words ∷ []) (others ∷ []) equivalent (ap (λ (ws : List ℕ). ws ∷ []) (same_Some words others same))) refl (players_with old.other old.other old.machine machine_too equivalent refl)
     as_alike line None None true said also_said blocks also_blocks new also_new same first quiet second also_quiet = by_event_alike line said also_said blocks also_blocks new also_new first quiet second also_quiet
     as_alike line None None false said also_said blocks also_blocks new also_new same first quiet second also_quiet = other_alike line said also_said blocks also_blocks new also_new first quiet second also_quiet
@@ -441,17 +444,17 @@ module _ (tells : Type 0) (told : tells) where
 same_wanted : (want wants_too : ℕ → Bool) (blocks : List (List ℕ)) → ((severity : ℕ) → want severity ≡ wants_too severity) → wanted want blocks ≡ wanted wants_too blocks
 same_wanted want wants_too blocks same = ap (λ (f : ℕ → Bool). wanted f blocks) (λ i severity. same severity i)
 
-same_heard : (wants wants_too : List (ℕ → Bool)) (blocks : List (List ℕ)) (counts : List ℕ) → WantAlike wants wants_too → heard_after wants blocks counts ≡ heard_after wants_too blocks counts
+same_heard : (wants wants_too : List (ℕ → Bool)) (blocks : List (List ℕ)) (counts : List ℕ) → (AllZip (λ want wants_too. (severity : ℕ) → want severity ≡ wants_too severity) wants wants_too) → heard_after wants blocks counts ≡ heard_after wants_too blocks counts
 same_heard [] [] blocks counts same = refl
 same_heard [] (want ∷ wants_too) blocks counts same = absurd same
 same_heard (want ∷ wants) [] blocks counts same = absurd same
 same_heard (want ∷ wants) (want_too ∷ wants_too) blocks [] same = refl
 same_heard (want ∷ wants) (want_too ∷ wants_too) blocks (heard_so_far ∷ counts) same =
-    ap (λ (n : ℕ). heard_of heard_so_far n ∷ heard_after wants blocks counts) (same_wanted want want_too blocks same.0)
-    ∙ ap (λ (ns : List ℕ). heard_of heard_so_far (wanted want_too blocks) ∷ ns) (same_heard wants wants_too blocks counts same.1)
+    ap (λ (n : ℕ). (if n == 0 then heard_so_far else min (heard_so_far + n) (2 ^ 64 - 1)) ∷ heard_after wants blocks counts) (same_wanted want want_too blocks same.0)
+    ∙ ap (λ (ns : List ℕ). (if (wanted want_too blocks) == 0 then heard_so_far else min (heard_so_far + (wanted want_too blocks)) (2 ^ 64 - 1)) ∷ ns) (same_heard wants wants_too blocks counts same.1)
 
-module _ (tells : Type 0) (told : tells) (make_turns : MakeTurns tells told) (wants wants_too : List (ℕ → Bool)) (want_alike : WantAlike wants wants_too) where
-  pub histories_alike : (counts : List ℕ) (one also : PlayerState) (first second : List Played) (one_last also_last : PlayerState) → EquivalentPlayers one also → IsMachine one.machine → lines_in first ≡ lines_in second
+module _ (tells : Type 0) (told : tells) (make_turns : MakeTurns tells told) (wants wants_too : List (ℕ → Bool)) (want_alike : (AllZip (λ want wants_too. (severity : ℕ) → want severity ≡ wants_too severity) wants wants_too)) where
+  pub histories_alike : (counts : List ℕ) (one also : PlayerState) (first second : List Played) (one_last also_last : PlayerState) → EquivalentPlayers one also → IsMachine one.machine → (map (λ (played : Played). played.line) first) ≡ (map (λ (played : Played). played.line) second)
       → Follows tells wants counts one first one_last → FailedNothing one.machine one_last.machine → Follows tells wants_too counts also second also_last → FailedNothing also.machine also_last.machine
       → PlayedAlike first second one_last also_last
   histories_alike counts one also [] [] one_last also_last players machine lines follows quiet follows_too also_quiet =
@@ -459,7 +462,7 @@ module _ (tells : Type 0) (told : tells) (make_turns : MakeTurns tells told) (wa
       record { said = refl; text = refl; blocks = refl; players = at_end; records = ap (λ (o : MachineOutline). o.device.store.records) at_end.machines }
   histories_alike counts one also (x ∷ first) (y ∷ second) one_last also_last players machine lines follows quiet follows_too also_quiet =
       let line : x.line ≡ y.line = let e = lines in cc in
-      let rest : lines_in first ≡ lines_in second = let e = lines in cc in
+      let rest : (map (λ (played : Played). played.line) first) ≡ (map (λ (played : Played). played.line) second) = let e = lines in cc in
       let one_step = follows.0.happened.never_falls in
       let one_rest = (history_goes_on tells told wants (heard_after wants x.blocks counts) x.left first one_last follows.1).1.never_falls in
       let also_step = follows_too.0.happened.never_falls in
@@ -476,9 +479,9 @@ module _ (tells : Type 0) (told : tells) (make_turns : MakeTurns tells told) (wa
       (subst (λ (ns : List ℕ). Follows tells wants_too ns y.left second also_last) heard follows_too.1)
       (quiet_second (faults_of also.machine) (faults_of y.left.machine) (faults_of also_last.machine) also_step also_rest also_quiet) in
       record {
-        said = ap (λ (s : List Reply). s ∷ said_in first) both.same ∙ ap (λ (s : List (List Reply)). y.said ∷ s) more.said;
-        text = ap (λ (s : List Reply). text_of_replies s ++ text_of first) both.same ∙ ap (λ (t : List ℕ). reply_of y ++ t) more.text;
-        blocks = ap (λ (s : List (List ℕ)). s ∷ taken_in first) both.taken ∙ ap (λ (s : List (List (List ℕ))). y.blocks ∷ s) more.blocks;
+        said = ap (λ (s : List Reply). s ∷ (map (λ (played : Played). played.said) first)) both.same ∙ ap (λ (s : List (List Reply)). y.said ∷ s) more.said;
+        text = ap (λ (s : List Reply). text_of_replies s ++ text_of first) both.same ∙ ap (λ (t : List ℕ). (text_of_replies y.said) ++ t) more.text;
+        blocks = ap (λ (s : List (List ℕ)). s ∷ (map (λ (played : Played). played.blocks) first)) both.taken ∙ ap (λ (s : List (List (List ℕ))). y.blocks ∷ s) more.blocks;
         players = more.players;
         records = more.records;
       }
@@ -497,7 +500,7 @@ own_players_alike one also steps equivalent = record {
 }
 
 -- listeners want what they want
-same_wants : (wants : List (ℕ → Bool)) → WantAlike wants wants
+same_wants : (wants : List (ℕ → Bool)) → (AllZip (λ want wants_too. (severity : ℕ) → want severity ≡ wants_too severity) wants wants)
 same_wants [] = tt
 same_wants (want ∷ wants) = ((λ severity. refl), same_wants wants)
 
@@ -507,7 +510,7 @@ with_value_is_machine state value machine = record { sizes = machine.sizes; laid
 pub booted_alike : (tells : Type 0) (told : tells) → MakeTurns tells told → (geometry : Geometry) (flash flash_too : FlashState) (one also : MachineState)
     → records_in (layout_of geometry) flash.told.image ≡ records_in (layout_of geometry) flash_too.told.image → flash.steps ≡ flash_too.steps
     → second_copies geometry.slot_size geometry.slots flash.told.image ≡ second_copies geometry.slot_size geometry.slots flash_too.told.image → BootsFrom geometry flash one → BootsFrom geometry flash_too also
-    → (wants : List (ℕ → Bool)) (counts : List ℕ) (steps : Option ℕ) (first second : List Played) (one_last also_last : PlayerState) → lines_in first ≡ lines_in second
+    → (wants : List (ℕ → Bool)) (counts : List ℕ) (steps : Option ℕ) (first second : List Played) (one_last also_last : PlayerState) → (map (λ (played : Played). played.line) first) ≡ (map (λ (played : Played). played.line) second)
     → Follows tells wants counts (own_player one steps) first one_last → FailedNothing one one_last.machine → Follows tells wants counts (own_player also steps) second also_last → FailedNothing also also_last.machine
     → PlayedAlike first second one_last also_last
 booted_alike tells told make_turns geometry flash flash_too one also records changes copies boots boots_too wants counts steps first second one_last also_last lines follows quiet follows_too also_quiet =

@@ -175,7 +175,7 @@ module _ (tells : Type 0) where
       elim plays as (λ one plays. IsInStep old → IsAtHand last old.bridge old.machine
       → GiveStoredBack last old.bridge old.machine one.steps × IsAtHand (stored_behind last old.bridge one.steps) one.left.bridge one.left.machine) [
         | Blank ↦ λ step held. (tt, held)
-        | ByClient line words now commanded ↦ λ step held. (tt, at_hand_on last old.bridge old.machine now (reached_last old.machine now commanded.reaches) held)
+        | ByClient line words now commanded ↦ λ step held. (tt, at_hand_on last old.bridge old.machine now (reached_last old.machine now commanded.1) held)
         | GivenTable hex bytes words now other decoded gives ↦ λ step held. (tt, at_hand_on last old.bridge old.machine now (table_last old.machine old.other bytes words now other gives) held)
         | OwnTable ↦ λ step held. (tt, held)
         | GivenShadow left now attaches attached reaches ↦ λ step held. (tt, at_hand_on last old.bridge old.machine now (reached_last old.machine now reaches) held)

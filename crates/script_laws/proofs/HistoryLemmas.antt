@@ -20,13 +20,17 @@ use Rattle.script_text.specs.ScriptGrammar.{Line}
 use Rattle.apei_script.specs.Words.{Reply}
 use Rattle.erst_client.specs.Commands.{ClientState}
 use Rattle.erst_shadow.specs.ShadowCommands.{shadow_client}
-use Rattle.apei_script.specs.Players.{PlayerState, UsesOwn, UsesShadow, UsesEither, GivenNoOther}
+use Rattle.apei_script.specs.Players.{PlayerState, UsesOwn, UsesShadow, UsesEither, budget_of}
 use Rattle.apei_script.specs.Plays.{Plays, Blank, ByClient, GivenTable, OwnTable, GivenShadow, OnMachine, ByTheBridge, OnlyTells, Reset, Power, HasHappened, LinePlayed, names_command, IsOwnLine, played_as}
+use Rattle.script_laws.proofs.Terms.{GivenNoOther}
 use Rattle.script_laws.specs.History.{Played, heard_after, Follows, EndInOrder, ShowsLines, ShowsEachLine, AreOwnLines, IsMapped, IsShadowMapped, AreMapped, NoneSaysHardware, AllGoThrough, AlwaysUsesEither}
+use Rattle.script_laws.specs.History.{IsMappedBy}
 use Rattle.apei_script.proofs.BridgeLemmas.{ShowsLine}
 use Rattle.apei_script.proofs.EventChanges.{along}
 use Rattle.apei_script.proofs.LineLemmas.{line_divides, line_own}
 use Rattle.apei_script.proofs.SessionLines.{in_use}
+use Rattle.apei_script.specs.Mapped.{Mapped}
+use Rattle.apei_script.specs.ShadowMapped.{ShadowMapped}
 
 abbrev faults_of : MachineState → ℕ
 faults_of state = state.device.store.flash.faults
@@ -133,13 +137,13 @@ module _ (tells : Type 0) where
 
   module _ (told : tells) where
     is_mapped : (counts : List ℕ) (old : PlayerState) (played : Played) → LinePlayed tells counts old played → UsesOwn old → names_command played.line ≡ true
-        → IsMapped old played
+        → (IsMappedBy (λ words. Mapped (budget_of old) old.machine played.line words played.left.machine) old played)
     is_mapped counts old played line uses names =
         let by_map = line.by_map told uses names in
         record { words = by_map.0; said = by_map.1; mapped = by_map.2; cause = line.cause (inl uses) names; enough = line.enough (inl uses) names }
 
     is_shadow_mapped : (counts : List ℕ) (old : PlayerState) (played : Played) → LinePlayed tells counts old played → UsesShadow old
-        → names_command played.line ≡ true → IsShadowMapped old played
+        → names_command played.line ≡ true → (IsMappedBy (λ words. ShadowMapped (budget_of old) old.machine played.line words played.left.machine) old played)
     is_shadow_mapped counts old played line uses names =
         let mapped = line.by_shadow told uses names in
         record { words = mapped.0; said = mapped.1; mapped = mapped.2; cause = line.cause (inr uses) names; enough = line.enough (inr uses) names }

@@ -1,3 +1,4 @@
+pub mod Terms
 pub mod HistoryLemmas
 pub mod LineKinds
 pub mod EquivalenceLemmas

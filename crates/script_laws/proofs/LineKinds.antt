@@ -27,14 +27,14 @@ use Rattle.script_text.specs.ScriptGrammar.{Line, blank, write, read, clear, cou
 use Rattle.erst_shadow.specs.ShadowTables.{shadow_count}
 use Rattle.erst_shadow.specs.ShadowCommands.{shadow_client}
 use Rattle.apei_script.specs.Players.{PlayerState, client_of, budget_of, asker_of}
-use Rattle.apei_script.specs.Words.{Reply, said_at, refused, words_of_write, words_of_read, words_of_clear, words_of_count, words_of_next, words_of_dummy, words_of_action, words_of_table, words_of_turns, words_of_heard, words_of_block, words_of_bert}
+use Rattle.apei_script.specs.Words.{Reply, said_at, refused, words_of_write, words_of_read, words_of_clear, words_of_count, words_of_next, words_of_dummy, words_of_action, words_of_table, words_of_turns, words_of_heard, words_of_block}
 use Rattle.apei_script.specs.Asked.{READ_BUFFER, Asked, WritesRecord, ReadsRecord, ClearsRecord, CountsRecords, FindsNext, WritesDummy, RunsAction}
 use Rattle.apei_script.specs.Tables.{ATTACH_STEPS, BeginsWith, GivesTable, IsNoTable, IsNotAttached, IsAttached}
 use Rattle.apei_script.proofs.ShadowGiving.{GivesShadow}
 use Rattle.apei_script.specs.Happened.{AsksFor, Happened, Once, Turn, IsListed}
 use Rattle.script_text.specs.Turns.{side_of}
 use Rattle.apei_script.specs.Bridged.{bridge_refusal, replies_of, ByBridge, Enters, StaysAs, BridgesTurns}
-use Rattle.apei_script.specs.Plays.{Plays, Blank, ByClient, GivenTable, OwnTable, GivenShadow, OnMachine, ByTheBridge, OnlyTells, Reset, Power, changes_in, step_of, played_as}
+use Rattle.apei_script.specs.Plays.{Plays, Blank, ByClient, GivenTable, OwnTable, GivenShadow, OnMachine, ByTheBridge, OnlyTells, Reset, Power, changes_in, played_as}
 use Rattle.apei_script.proofs.PlayLemmas.{with_machine}
 use Rattle.apei_script.proofs.TurnsAlike.{TurnsBy, turns_by}
 use Rattle.apei_script.proofs.OneEvent.{words_told, NeedsNoBridge, asks_once, once}
@@ -74,7 +74,7 @@ module _ (tells : Type 0) where
   HappenedBy old (turns letters) said blocks new =
       (events : List TurnEvent) × (said ≡ map words_of_block blocks ++ words_of_turns events ∷ []) × TurnsBy old letters events blocks new
   HappenedBy old bert said blocks new =
-      (listed : List (List ℕ)) × (left : ℕ) × (said ≡ map words_of_block listed ++ words_of_bert (length listed) ∷ []) × (blocks ≡ []) × (new ≡ old) × IsLaidOut listed left old.memory.region
+      (listed : List (List ℕ)) × (left : ℕ) × (said ≡ map words_of_block listed ++ (codes "bert " ++ decimal (length listed)) ∷ []) × (blocks ≡ []) × (new ≡ old) × IsLaidOut listed left old.memory.region
   HappenedBy old line said blocks new = ⊥
 
   -- a table that was given, and what it came to
@@ -142,7 +142,7 @@ module _ (tells : Type 0) where
   PlaysOther old (table hex) said blocks new =
       (bytes : List ℕ) × (words : List ℕ) × (machine : MachineState) × (other : Option ClientState) × (decode_of hex ≡ Ok bytes) × Given old.machine old.other bytes words machine other
       × Left said blocks new (said_at (changes_in machine) (words ∷ [])) [] (record old { machine = machine; other = other })
-  PlaysOther old own_table said blocks new = Left said blocks new (said_at (step_of old) (words_of_table (length old.own.table.entries) ∷ [])) [] (record old { other = None })
+  PlaysOther old own_table said blocks new = Left said blocks new (said_at (changes_in old.machine) (words_of_table (length old.own.table.entries) ∷ [])) [] (record old { other = None })
   PlaysOther old shadow_table said blocks new = (machine : MachineState) × GivesShadow tells old.machine machine
       × Left said blocks new (said_at (changes_in machine) (words_of_table shadow_count ∷ [])) [] (record old { machine = machine; other = Some (shadow_client old.machine) })
   PlaysOther old (turns letters) said blocks new = ((old.bridge ≡ Off) × ByItself old (turns letters) said blocks new) ⊎ ByBridgeTurns old letters said blocks new
@@ -156,7 +156,7 @@ module _ (tells : Type 0) where
 
   -- by what it tells, and whether it asks for one thing that happens
   abbrev pub PlaysAs : Option (List ℕ) → Bool → PlayerState → Line → List Reply → List (List ℕ) → PlayerState → Type 0
-  PlaysAs (Some words) asks old line said blocks new = Left said blocks new (said_at (step_of old) (words ∷ [])) [] old
+  PlaysAs (Some words) asks old line said blocks new = Left said blocks new (said_at (changes_in old.machine) (words ∷ [])) [] old
   PlaysAs None true old line said blocks new = ByOneEvent old line said blocks new
   PlaysAs None false old line said blocks new = PlaysOther old line said blocks new
 
@@ -186,9 +186,9 @@ module _ (tells : Type 0) where
       (subst (λ (asks_for : Bool). PlaysAs None asks_for old line (said_at (changes_in machine) (words ∷ [])) [] (with_machine machine old)) (sym one.alone)
       (event, words, machine, asks, happens, as_it_is _ _ _))
 
-  by_telling : (counts : List ℕ) (old : PlayerState) (line : Line) (words : List ℕ) → words_told counts old line ≡ Some words → PlaysBy counts old line (said_at (step_of old) (words ∷ [])) [] old
+  by_telling : (counts : List ℕ) (old : PlayerState) (line : Line) (words : List ℕ) → words_told counts old line ≡ Some words → PlaysBy counts old line (said_at (changes_in old.machine) (words ∷ [])) [] old
   by_telling counts old line words told =
-      subst (λ (words_now : Option (List ℕ)). PlaysAs words_now (asks_once line) old line (said_at (step_of old) (words ∷ [])) [] old) (sym told) (as_it_is _ _ _)
+      subst (λ (words_now : Option (List ℕ)). PlaysAs words_now (asks_once line) old line (said_at (changes_in old.machine) (words ∷ [])) [] old) (sym told) (as_it_is _ _ _)
 
   by_itself : (counts : List ℕ) (old : PlayerState) (line : Line) (words blocks : List (List ℕ)) (machine : MachineState) → NeedsNoBridge old.bridge line → Happened tells old.machine line words blocks machine
       → PlaysBy counts old line (said_at (changes_in machine) words) blocks (with_machine machine old)
@@ -196,7 +196,7 @@ module _ (tells : Type 0) where
     | Once line event words new asks happens ↦ λ alone. by_event counts old line event words new asks happens
     | Turn letters events blocks new turned ↦ λ alone.
         inl (alone, (map words_of_block blocks ++ words_of_turns events ∷ [], blocks, new, (events, refl, turns_by old.machine letters events blocks new turned), as_it_is _ _ _))
-    | IsListed blocks left laid ↦ λ alone. (map words_of_block blocks ++ words_of_bert (length blocks) ∷ [], [], old.machine, (blocks, left, refl, refl, refl, laid), as_it_is _ _ _)
+    | IsListed blocks left laid ↦ λ alone. (map words_of_block blocks ++ (codes "bert " ++ decimal (length blocks)) ∷ [], [], old.machine, (blocks, left, refl, refl, refl, laid), as_it_is _ _ _)
   ] alone
 
   by_bridge : (counts : List ℕ) (old : PlayerState) (line : Line) (said : List Reply) (blocks : List (List ℕ)) (steps : List Step) (bridge_now : BridgeState) (machine : MachineState)
@@ -211,7 +211,7 @@ module _ (tells : Type 0) where
   pub plays_by : (counts : List ℕ) (old : PlayerState) (line : Line) (said : List Reply) (blocks : List (List ℕ)) (steps : List Step) (new : PlayerState) → Plays tells counts old (played_as line said blocks steps new) → PlaysBy counts old line said blocks new
   plays_by counts old line said blocks steps new plays = elim plays as (λ one plays. PlaysBy counts old one.line one.said one.blocks one.left) [
     | Blank ↦ as_it_is _ _ _
-    | ByClient line words machine commanded ↦ by_its_client counts old line words machine commanded.asked
+    | ByClient line words machine commanded ↦ by_its_client counts old line words machine commanded.0
     | GivenTable hex bytes words machine other decoded gives ↦ (bytes, words, machine, other, decoded, given_by old.machine old.other bytes words machine other gives, as_it_is _ _ _)
     | OwnTable ↦ as_it_is _ _ _
     | GivenShadow left machine attaches attached reaches ↦ (machine, record { left = left; attaches = attaches; attached = attached; reaches = reaches }, as_it_is _ _ _)

@@ -134,7 +134,7 @@ module _ (tells : Type 0) where
       → Plays tells counts old (played_as line said blocks steps new) → IsInStep old → KeepOrder old.bridge steps × IsInStep new
   line_order counts old line said blocks steps new machine plays step = elim plays as (λ one plays. KeepOrder old.bridge one.steps × IsInStep one.left) [
     | Blank ↦ (tt, step)
-    | ByClient line words now commanded ↦ (tt, reached old.bridge old.machine now commanded.reaches step)
+    | ByClient line words now commanded ↦ (tt, reached old.bridge old.machine now commanded.1 step)
     | GivenTable hex bytes words now other decoded gives ↦ (tt, table_step old.bridge old.machine old.other bytes words now other gives step)
     | OwnTable ↦ (tt, step)
     | GivenShadow left now attaches attached reaches ↦ (tt, reached old.bridge old.machine now reaches step)

@@ -14,15 +14,13 @@ use Rattle.apei_script.specs.Words.{said_at, text_of_replies}
 use Rattle.apei_script.specs.Mapped.{Mapped, after_line}
 use Rattle.apei_script.specs.ShadowMapped.{ShadowMapped}
 pub use Rattle.apei_script.specs.Plays.{Played}
-use Rattle.apei_script.specs.Plays.{LinePlayed, step_of, names_command, IsOwnLine, SaysHardware, SaysNoStop}
+use Rattle.apei_script.specs.Plays.{LinePlayed, names_command, IsOwnLine, SaysHardware, SaysNoStop}
+use Rattle.apei_script.specs.Bridged.{changes_in}
 
--- how often a listener has heard of an error once it was told of so many more that it wants
-abbrev pub heard_of : ℕ → ℕ → ℕ
-heard_of count more = if more == 0 then count else min (count + more) (2 ^ 64 - 1)
-
--- the counts of the listeners once they were told of some blocks; `wants` are the severities that each of them wants
+-- the counts of the listeners once they were told of some blocks, each of those that it wants; `wants` are the severities that each of them wants
 abbrev pub heard_after : List (ℕ → Bool) → List (List ℕ) → List ℕ → List ℕ
-heard_after (want ∷ wants) blocks (count ∷ counts) = heard_of count (wanted want blocks) ∷ heard_after wants blocks counts
+heard_after (want ∷ wants) blocks (count ∷ counts) =
+    (if wanted want blocks == 0 then count else min (count + wanted want blocks) (2 ^ 64 - 1)) ∷ heard_after wants blocks counts
 heard_after wants blocks counts = counts
 
 -- lines one after another: each is played by the player that the one before it left
@@ -35,12 +33,9 @@ Follows tells wants counts first (played ∷ rest) last =
 abbrev pub blocks_of : List Played → List (List ℕ)
 blocks_of lines = flat_map (λ (played : Played). played.blocks) lines
 
--- the replies to a line, and to lines, as they are written
-abbrev pub reply_of : Played → List ℕ
-reply_of played = text_of_replies played.said
-
+-- the replies to lines, as they are written
 abbrev pub text_of : List Played → List ℕ
-text_of lines = flat_map reply_of lines
+text_of lines = flat_map (λ (played : Played). text_of_replies played.said) lines
 
 -- the lines end one after another, between these numbers of flash changes
 abbrev pub EndInOrder : ℕ → List Played → ℕ → Type 0
@@ -50,7 +45,7 @@ EndInOrder from (played ∷ rest) to = (from ≤ changes_of played.left.machine)
 -- the flash step behind each reply counts the changes that the flash tells
 abbrev pub AreCounted : List Played → Type 0
 AreCounted [] = Unit {0}
-AreCounted (played ∷ rest) = (changes_of played.left.machine ≡ step_of played.left) × AreCounted rest
+AreCounted (played ∷ rest) = (changes_of played.left.machine ≡ changes_in played.left.machine) × AreCounted rest
 
 -- What power lost at step s may show: the records after the lines that had ended by s, or what the next line shows. That is the records from
 -- before it, or as it leaves them where nothing fails; in turns of the bridge those after the turns that had ended by s, or as the next one leaves
@@ -80,23 +75,20 @@ AreOwnLines (played ∷ rest) = IsOwnLine played.line × AreOwnLines rest
 -- very line, and where its steps are enough it is never stopped, and never late
 pub record IsMappedBy (Maps : List ℕ → Type 0) (state : PlayerState) (played : Played) : Type 0 where
   pub words : List ℕ
-  pub said : played.said ≡ said_at (step_of played.left) (words ∷ [])
+  pub said : played.said ≡ said_at (changes_in played.left.machine) (words ∷ [])
   pub mapped : Maps words
   pub cause : SaysHardware played.said → Rose state.machine.device.store.flash.faults played.left.machine.device.store.flash.faults
   pub enough : enough_steps (client_of state).timings ≤ budget_of state → SaysNoStop played.said
 
--- by the machine's own table, and by that whose own programs move the record
-abbrev pub IsMapped : PlayerState → Played → Type 0
-IsMapped state played = IsMappedBy (λ words. Mapped (budget_of state) state.machine played.line words played.left.machine) state played
-
-abbrev pub IsShadowMapped : PlayerState → Played → Type 0
-IsShadowMapped state played = IsMappedBy (λ words. ShadowMapped (budget_of state) state.machine played.line words played.left.machine) state played
-
--- so is each line that asks the client of one of the machine's two tables for a command on records
+-- so is each line that asks for a command on records, by the machine's own table and by that whose own programs move the record
 abbrev pub AreMapped : PlayerState → List Played → Type 0
 AreMapped state [] = Unit {0}
-AreMapped state (played ∷ rest) = (UsesOwn state → names_command played.line ≡ true → IsMapped state played)
-    × (UsesShadow state → names_command played.line ≡ true → IsShadowMapped state played) × AreMapped played.left rest
+AreMapped state (played ∷ rest) =
+    (UsesOwn state → names_command played.line ≡ true
+    → IsMappedBy (λ words. Mapped (budget_of state) state.machine played.line words played.left.machine) state played)
+    × (UsesShadow state → names_command played.line ≡ true
+    → IsMappedBy (λ words. ShadowMapped (budget_of state) state.machine played.line words played.left.machine) state played)
+    × AreMapped played.left rest
 
 -- none of these lines says that the flash failed
 abbrev pub NoneSaysHardware : PlayerState → List Played → Type 0

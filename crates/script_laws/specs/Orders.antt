@@ -10,12 +10,9 @@ use Rattle.erst_bridge.specs.MachinesInStep.{StandsInStep, KeepOrder}
 use Rattle.apei_script.specs.Players.{PlayerState}
 use Rattle.script_laws.specs.History.{Played}
 
-abbrev pub HasNoBridge : PlayerState → Type 0
-HasNoBridge state = state.bridge ≡ Off
-
 -- the bridge is off, or in step with the handover
 abbrev pub IsInStep : PlayerState → Type 0
-IsInStep state = HasNoBridge state ⊎ ((m : HandoverMachine) × StandsInStep state.bridge state.machine m)
+IsInStep state = (state.bridge ≡ Off) ⊎ ((m : HandoverMachine) × StandsInStep state.bridge state.machine m)
 
 -- before each line and at the end; and in each line of turns the reader gives a block back behind the storing of its record
 abbrev pub AlwaysInStep : PlayerState → List Played → Type 0

@@ -1,7 +1,8 @@
 -- Lines that were played one after another, as one thing.
-use Rattle.std.specs.Prelude.{◌≡◌, ℕ, Bool, List}
+use Rattle.std.specs.Prelude.{◌≡◌, ℕ, ◌⊎◌, Bool, List, Some, None}
 use Rattle.erst_commands.specs.Attached.{own_client}
-use Rattle.apei_script.specs.Players.{PlayerState, GivenNoOther}
+use Rattle.erst_shadow.specs.ShadowCommands.{shadow_client}
+use Rattle.apei_script.specs.Players.{PlayerState}
 use Rattle.script_laws.specs.History.{Played, Follows, AreOwnLines}
 
 -- the player before them, the lines, and the player behind the last one; `wants` are the severities that each listener wants, and `counts`
@@ -14,8 +15,9 @@ pub record PlayedLines (tells : Type 0) : Type 0 where
   pub last : PlayerState
   pub follows : Follows tells wants counts first played last
 
--- only the clients of the machine's two tables play them: the first one is that of the own table, and no line runs an action or gives a table
+-- only the clients of the machine's two tables play them: the first one is that of the own table, no other table was given, and no line
+-- runs an action or gives a table
 pub record UseOwnTables (tells : Type 0) (lines : PlayedLines tells) : Type 0 where
   pub own : lines.first.own ≡ own_client lines.first.machine
-  pub no_other : GivenNoOther lines.first
+  pub no_other : (lines.first.other ≡ None) ⊎ (lines.first.other ≡ Some (shadow_client lines.first.machine))
   pub own_lines : AreOwnLines lines.played

@@ -1,6 +1,8 @@
 // Laws on whole histories: the functions do nothing, and their clauses are the laws.
-ghost use Rattle.std.specs.Prelude.{◌≡◌, ℕ, ◌≤◌, Bool, List, Option, None};
+ghost use Rattle.std.specs.Prelude.{◌≡◌, ℕ, ◌≤◌, Bool, List, Option, None, map};
 ghost use Rattle.base_model.specs.Flash.{IsLater, FlashState};
+ghost use Rattle.std.specs.List.{AllZip};
+ghost use Rattle.erst_bridge.specs.Bridges.{Off};
 ghost use Rattle.flash_model.specs.declared.geometry.Geometry.{Geometry as AnyGeometry};
 ghost use Rattle.flash_model.specs.Layouts.{layout_of};
 ghost use Rattle.record_model.specs.Records.{Stored, second_copies};
@@ -11,17 +13,16 @@ ghost use Rattle.erst_machine.specs.Events.{Event, Happens};
 ghost use Rattle.erst_machine.specs.Shown.{IsShown, made_by_event, changes_of};
 ghost use Rattle.erst_commands.specs.Attached.{own_client};
 ghost use Rattle.erst_commands.specs.Equivalence.{EquivalentMachines, FailedNothing, BootsFrom};
-ghost use Rattle.erst_bridge.specs.Bridges.{Off};
 ghost use Rattle.erst_bridge.specs.BridgedRuns.{EachLossShows};
 ghost use Rattle.erst_bridge.specs.{MachinesInStep.KeepOrder, Shown.IsStoredAs};
-ghost use Rattle.apei_script.specs.Players.{PlayerState};
+ghost use Rattle.apei_script.specs.Players.{PlayerState, own_player};
 ghost use Rattle.apei_script.specs.Plays.{Plays, HasHappened};
 ghost use Rattle.script_laws.specs.History.{Played, Follows, EndInOrder, ShowsLines, ShowsEachLine, AreMapped, NoneSaysHardware, AllGoThrough, AlwaysUsesEither};
 ghost use Rattle.script_laws.specs.PlayedLines.{PlayedLines, UseOwnTables};
 ghost use Rattle.script_laws.specs.Spares.{SpareLines, KeepsAll};
 ghost use Rattle.script_laws.specs.Orders.{IsInStep, AlwaysInStep, AllGiveStoredBack};
 ghost use Rattle.script_laws.specs.KeptCauses.{AllHaveCauses};
-ghost use Rattle.script_laws.specs.Equivalence.{EquivalentPlayers, own_player, WantAlike, lines_in, PlayedAlike};
+ghost use Rattle.script_laws.specs.Equivalence.{EquivalentPlayers, PlayedAlike};
 
 use erst_bridge::equivalent_machines_make_turns_alike;
 use erst_commands::own_programs_run_through;
@@ -115,8 +116,8 @@ pub fn equivalent_machines_make_equivalent_players()
 /// are the blocks that the operating system takes and the records at the end. Where the records stand plays no part in it.
 pub fn scripts_play_alike<F: Flash>()
     ensures { F.tells → (wants wants_too : List (ℕ → Bool)) (counts : List ℕ) (one also : PlayerState)
-        (first second : List Played) (one_last also_last : PlayerState) → WantAlike wants wants_too
-        → EquivalentPlayers one also → IsMachine one.machine → lines_in first ≡ lines_in second
+        (first second : List Played) (one_last also_last : PlayerState) → AllZip (λ want wants_too. (severity : ℕ) → want severity ≡ wants_too severity) wants wants_too
+        → EquivalentPlayers one also → IsMachine one.machine → map (λ (played : Played). played.line) first ≡ map (λ (played : Played). played.line) second
         → Follows F.tells wants counts one first one_last → FailedNothing one.machine one_last.machine
         → Follows F.tells wants_too counts also second also_last → FailedNothing also.machine also_last.machine
         → PlayedAlike first second one_last also_last }
@@ -133,7 +134,7 @@ pub fn booted_scripts_play_alike<F: Flash>()
         → flash.steps ≡ flash_too.steps → second_copies geometry.slot_size geometry.slots flash.told.image
         ≡ second_copies geometry.slot_size geometry.slots flash_too.told.image → BootsFrom geometry flash one
         → BootsFrom geometry flash_too also → (wants : List (ℕ → Bool)) (counts : List ℕ) (steps : Option ℕ)
-        (first second : List Played) (one_last also_last : PlayerState) → lines_in first ≡ lines_in second
+        (first second : List Played) (one_last also_last : PlayerState) → map (λ (played : Played). played.line) first ≡ map (λ (played : Played). played.line) second
         → Follows F.tells wants counts (own_player one steps) first one_last → FailedNothing one one_last.machine
         → Follows F.tells wants counts (own_player also steps) second also_last → FailedNothing also also_last.machine
         → PlayedAlike first second one_last also_last }

@@ -1,14 +1,18 @@
 -- The lines that are checked are a language of keywords.
-use Rattle.std.proofs.Common.{◌≡◌, ℕ, ◌⊎◌, inl, inr, List, [], ◌++◌, refl}
+use Rattle.std.proofs.Common.{◌≡◌, ℕ, ◌⊎◌, inl, inr, List, [], ◌∷◌, ◌++◌, refl}
 use Rattle.std.specs.Prelude.{codes}
 use Rattle.script_lines.specs.Columns.{Begins}
 use Rattle.script_text.specs.CheckGrammar.{CheckedLine, blank, comment, erst, hest, bert, one_record, block, IsValidCheck, check_text_of, IsCheckLine}
-use Rattle.script_text.specs.CheckWords.{check_codes_of, all_check_words, CheckFollows}
+use Rattle.script_text.specs.CheckWords.{check_codes_of, CheckFollows}
 use Rattle.script_text.specs.declared.check_line.CheckWord.{CheckWord}
 use Rattle.script_text.specs.declared.check_line.CheckWord.TheVariants.{Comment, Erst, Hest, Bert, Record, Block}
 use Rattle.script_lines.proofs.BehindLemmas.{IsOne, IsAlone}
 use Rattle.script_lines.proofs.KeywordLemmas.{IsLanguage, one_of_all, language}
 use Rattle.script_lines.proofs.PairLemmas.{one_pair}
+
+-- all keywords
+abbrev pub all_check_words : List CheckWord
+all_check_words = Comment ∷ Erst ∷ Hest ∷ Bert ∷ Record ∷ Block ∷ []
 
 -- no keyword begins another
 pub alone : (word : CheckWord) → IsAlone check_codes_of all_check_words word

@@ -2,10 +2,10 @@
 use Rattle.std.proofs.Common.{◌≡◌, ℕ, ◌⊎◌, inl, inr, List, refl, sym, ◌∙◌, arith}
 use Rattle.script_lines.proofs.OneLine.{IsReading, one_line}
 use Rattle.script_text.specs.CheckGrammar.{CheckedLine, blank, comment, erst, hest, bert, one_record, block, IsValidCheck, check_text_of}
-use Rattle.script_text.specs.CheckWords.{check_codes_of, all_check_words}
+use Rattle.script_text.specs.CheckWords.{check_codes_of}
 use Rattle.script_text.specs.declared.check_line.CheckWord.{CheckWord}
 use Rattle.script_text.specs.declared.check_line.CheckWord.TheVariants.{Comment, Erst, Hest, Bert, Record, Block}
-use Rattle.script_text.proofs.CheckLemmas.{alone}
+use Rattle.script_text.proofs.CheckLemmas.{all_check_words, alone}
 
 -- the line of a keyword and what is behind it
 abbrev line_behind : CheckWord → List ℕ → CheckedLine

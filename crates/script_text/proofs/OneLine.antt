@@ -2,9 +2,9 @@
 use Rattle.std.proofs.Common.{◌≡◌, ℕ, ◌⊎◌, inl, inr, List, refl, sym, ◌∙◌, arith}
 use Rattle.script_lines.proofs.OneLine.{IsReading as IsReadingOf, one_line as one_line_of}
 use Rattle.script_text.specs.ScriptGrammar.{Line, IsValid, text_of, blank}
-use Rattle.script_text.specs.ScriptText.{codes_of, all_words, Follows}
+use Rattle.script_text.specs.ScriptText.{codes_of, Follows}
 use Rattle.script_text.specs.declared.script_line.ScriptWord.{ScriptWord}
-use Rattle.script_text.proofs.ScriptLemmas.{alone, meant, same_meant, IsReading, reading}
+use Rattle.script_text.proofs.ScriptLemmas.{all_words, alone, meant, same_meant, IsReading, reading}
 
 -- the line that a keyword and what follows it mean
 abbrev IsReadAs : ScriptWord → List ℕ → Line → Type 0

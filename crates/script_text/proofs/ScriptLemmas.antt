@@ -9,7 +9,7 @@ use Rattle.script_text.specs.Turns.{IsTurns}
 use Rattle.script_text.specs.ScriptGrammar.{Line, IsLine, IsValid, text_of, blank, comment, write, read, clear, count, next, dummy, action, table, own_table, shadow_table, error, turns, peek, fatal, bert, heard, reset, power, bridge}
 use Rattle.script_lines.specs.Columns.{Begins}
 use Rattle.script_lines.specs.Parts.{IsPairs, IsNumber, AreTwoNumbers}
-use Rattle.script_text.specs.ScriptText.{codes_of, all_words, Follows, IsText, Means, AsWritten, AsComment, line_of}
+use Rattle.script_text.specs.ScriptText.{codes_of, Follows, IsText, Means, AsWritten, AsComment, line_of}
 use Rattle.script_text.specs.declared.script_line.ScriptLine.{ScriptLine}
 use Rattle.script_text.specs.declared.script_line.ScriptLine.TheVariants as parsed
 use Rattle.script_text.specs.declared.script_line.ScriptWord.{ScriptWord}
@@ -18,6 +18,10 @@ use Rattle.script_lines.proofs.KeywordLemmas.{IsLanguage, one_of_all, language}
 use Rattle.script_lines.proofs.PairLemmas.{one_pair}
 use Rattle.script_lines.proofs.BehindLemmas.{IsBehind, IsOne, IsAlone}
 use Rattle.script_lines.proofs.OneLine.{same_then}
+
+-- all keywords
+abbrev pub all_words : List ScriptWord
+all_words = Comment ∷ Write ∷ Read ∷ Clear ∷ Count ∷ Next ∷ Dummy ∷ Action ∷ Table ∷ Error ∷ Turns ∷ Peek ∷ Fatal ∷ Bert ∷ Heard ∷ Reset ∷ Power ∷ Bridge ∷ []
 
 -- no keyword begins another
 pub alone : (word : ScriptWord) → IsAlone codes_of all_words word

@@ -18,7 +18,3 @@ check_codes_of word = (check_form_of word).0
 
 abbrev pub CheckFollows : CheckWord → List ℕ → Type 0
 CheckFollows word = (check_form_of word).1
-
--- all keywords
-abbrev pub all_check_words : List CheckWord
-all_check_words = Comment ∷ Erst ∷ Hest ∷ Bert ∷ Record ∷ Block ∷ []

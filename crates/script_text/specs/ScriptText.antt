@@ -29,11 +29,6 @@ codes_of keyword.Reset = codes "reset"
 codes_of keyword.Power = codes "power"
 codes_of keyword.Bridge = codes "bridge "
 
--- all keywords
-abbrev pub all_words : List ScriptWord
-all_words = keyword.Comment ∷ keyword.Write ∷ keyword.Read ∷ keyword.Clear ∷ keyword.Count ∷ keyword.Next ∷ keyword.Dummy ∷ keyword.Action ∷ keyword.Table ∷ keyword.Error ∷ keyword.Turns ∷ keyword.Peek ∷ keyword.Fatal ∷ keyword.Bert
-    ∷ keyword.Heard ∷ keyword.Reset ∷ keyword.Power ∷ keyword.Bridge ∷ []
-
 -- what may follow a keyword: anything behind that of a comment, and nothing behind those that are not named here
 abbrev pub Follows : ScriptWord → List ℕ → Type 0
 Follows keyword.Comment = λ text. Unit {0}

@@ -1,6 +1,6 @@
 // Commands that are generated.
-ghost use Rattle.std.specs.Prelude.{◌≡◌, ◌≤◌};
-ghost use Rattle.apei_cli.specs.Commands.{number_behind, drawn_of, command_of};
+ghost use Rattle.std.specs.Prelude.{◌≡◌, ◌≤◌, ◌+◌, ◌*◌, ◌%◌, ◌^◌, ◌/◌};
+ghost use Rattle.apei_cli.specs.Commands.{command_of};
 
 /// A command that is generated.
 #[derive(Clone, Copy, Debug, PartialEq, Eq)]
@@ -15,7 +15,7 @@ pub enum Command {
 
 /// The number behind another in a linear congruential sequence.
 pub fn number_behind(number: u64) -> u64
-    ensures { result ≡ number_behind number }
+    ensures { result ≡ (number * 6364136223846793005 + 1442695040888963407) % 2 ^ 64 }
 {
     number
         .wrapping_mul(6_364_136_223_846_793_005)
@@ -25,7 +25,7 @@ pub fn number_behind(number: u64) -> u64
 impl Command {
     /// The command that a number of the sequence stands for.
     pub fn of(number: u64) -> Command
-        ensures { result ≡ command_of (drawn_of number) }
+        ensures { result ≡ command_of (number / 2 ^ 33) }
     {
         let drawn = number >> 33;
         let id = 1 + drawn / 8 % 40;

@@ -6,7 +6,6 @@ ghost use Rattle.apei_notify.specs.Chains.{members_of};
 ghost use Rattle.apei_script.specs.Sessions.{state_of};
 ghost use Rattle.apei_cli.specs.Commands.{line_for, HasSize};
 ghost use Rattle.apei_cli.specs.Generated.{IsRefusedIf, PlaysCommands};
-ghost use Rattle.apei_cli.specs.Orders.{batch_of};
 ghost use Rattle.apei_cli.specs.Summaries.{IsGenerated};
 
 use crate::generate::command::{Command, number_behind};
@@ -27,7 +26,7 @@ pub fn generate<F: Flash, O: Sink>(
 ) -> Result<(), SinkFault>
     requires { ⊤ }
     ensures generated { IsGenerated F.tells (stream_of O.tells (O.written out.old) (O.written out.new))
-        (state_of player.old.session) (batch_of seed count) (state_of player.new.session) result }
+        (state_of player.old.session) (record { seed = seed; count = count }) (state_of player.new.session) result }
     ensures listeners { members_of player.new.chain ≡ members_of player.old.chain }
     ensures cause { HasCause (O.faults out.old) (O.faults out.new) result }
 {

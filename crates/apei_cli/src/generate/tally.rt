@@ -1,6 +1,6 @@
 // What was played, by its kind.
 ghost use Rattle.std.specs.Prelude.{◌≡◌, ◌^◌, ◌+◌, ◌<◌, []};
-ghost use Rattle.apei_cli.specs.Tallies.{HasRoom, counted_with};
+ghost use Rattle.apei_cli.specs.Tallies.{HasRoom, counted_kind, counted_refusal};
 ghost use Rattle.apei_cli.specs.Generated.{tally_of};
 
 use crate::generate::command::Command;
@@ -32,7 +32,7 @@ impl Tally {
     /// Counts one more.
     pub fn count(&mut self, command: Command, refused: bool)
         requires { HasRoom self.old }
-        ensures { self.new ≡ counted_with command refused self.old }
+        ensures { self.new ≡ counted_refusal refused (counted_kind command self.old) }
     {
         match command {
             Command::Write { .. } => self.writes += 1,

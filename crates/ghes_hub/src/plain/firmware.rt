@@ -5,7 +5,8 @@ ghost use Rattle.ghes_ack.specs.Machine.{Machine, Filling};
 ghost use Rattle.ghes_ack.specs.Windows.{HasAddressed};
 ghost use Rattle.ghes_hub.specs.Plain.{PlainStands};
 ghost use Rattle.ghes_ack.specs.Handovers.{over};
-ghost use Rattle.ghes_hub.specs.PlainSides.{IsSound, Stands, Turns, FindsClear, FirmwareIsAble, FirmwareTurns, firmware_at};
+ghost use Rattle.ghes_hub.specs.PlainSides.{IsSound, Turns, FindsClear, FirmwareIsAble, FirmwareTurns};
+ghost use Rattle.ghes_ack.specs.OwnTurns.{firmware_at};
 ghost use Rattle.ghes_ack.specs.Sides.{state_of};
 
 use crate::plain::map::PlainMap;
@@ -45,7 +46,7 @@ fn fill_or_publish(
     ram: &mut Ram,
 ) -> (FirmwareEnd, Event)
     requires sound { IsSound Filling blocks.old }
-    requires stands { Stands (state_of Filling blocks.old) ram.old }
+    requires stands { (m : Machine) × PlainStands (state_of Filling blocks.old) ram.old m }
     ensures sound { IsSound (firmware_at result.0) blocks.new }
     ensures turns { (m : Machine) → PlainStands (state_of Filling blocks.old) ram.old m
         → Turns OfFirmware result.1 (over (state_of Filling blocks.old) ram.old)

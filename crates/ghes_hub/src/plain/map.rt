@@ -1,7 +1,7 @@
 // The windows of a handover without a read acknowledgement.
 ghost use Rattle.std.specs.Prelude.{◌≡◌};
-ghost use Rattle.ghes_ack.specs.Windows.{HasAddressed};
-ghost use Rattle.ghes_hub.specs.Plain.{with_plain_address, plain_started};
+ghost use Rattle.ghes_ack.specs.Windows.{HasAddressed, with_address_at};
+ghost use Rattle.ghes_hub.specs.Plain.{plain_started};
 
 use apei_space::{Ram, Space};
 use apei_tables::{Place, Width};
@@ -35,7 +35,7 @@ impl PlainMap {
 
     /// Writes the block's address.
     fn write_address(&self, ram: &mut Ram)
-        ensures { ram.new ≡ with_plain_address self.now ram.old }
+        ensures { ram.new ≡ with_address_at self.now.status self.now.window ram.old }
     {
         let _ = ram.write(Place::Memory(self.status), Width::B64, self.window.block);
     }

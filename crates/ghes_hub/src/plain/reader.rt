@@ -1,10 +1,10 @@
 // The reader's turns of a plain handover, by its own end, the block that it copies and the memory alone.
-ghost use Rattle.std.specs.Prelude.{◌≡◌, ◌-◌, ◌*◌, ◌<◌, ◌≤◌, min, length};
-ghost use Rattle.base_model.specs.Bytes.{part, put_at};
+ghost use Rattle.std.specs.Prelude.{◌*◌, ◌<◌, ◌≤◌, length, IfSome};
 ghost use Rattle.ghes_ack.specs.Machine.{Reading};
 ghost use Rattle.ghes_ack.specs.Windows.{HasAddressed};
 ghost use Rattle.ghes_ack.specs.Handovers.{over};
-ghost use Rattle.ghes_hub.specs.PlainSides.{IsSound, HasFittingWork, FindsBlock, ReaderMakes, ReaderIsAble, ReaderTurns, reader_at};
+ghost use Rattle.ghes_hub.specs.PlainSides.{IsSound, FindsBlock, ReaderMakes, ReaderIsAble, ReaderTurns};
+ghost use Rattle.ghes_ack.specs.OwnTurns.{reader_at};
 ghost use Rattle.ghes_ack.specs.Sides.{state_of};
 
 use crate::plain::map::PlainMap;
@@ -46,7 +46,7 @@ fn look_for_block(look: MustLook, blocks: &mut Blocks<PlainMap>, ram: &Ram) -> (
 fn copy_or_clear(read: MayRead, blocks: &mut Blocks<PlainMap>, ram: &mut Ram) -> (ReaderEnd, Event)
     requires sound { IsSound Reading blocks.old }
     requires windows { HasAddressed blocks.old.map.status blocks.old.map.window ram.old }
-    requires fits { HasFittingWork blocks.old }
+    requires fits { IfSome blocks.old.at_work (λ block. length block.items ≤ blocks.old.map.window.len) }
     ensures sound { IsSound (reader_at result.0) blocks.new }
     ensures makes { ReaderMakes (state_of Reading blocks.old) ram.old result.1
         (state_of (reader_at result.0) blocks.new) ram.new }

@@ -3,8 +3,9 @@ use Rattle.apei_tables.specs.declared.headers.Header.{Header}
 use Rattle.erst_entries.specs.declared.actions.Action.TheVariants.{ExecuteOperation, GetCommandStatus}
 use Rattle.erst_device.specs.Actions.{log_range_at}
 use Rattle.erst_shadow.specs.MoveEntries.{move_entries}
-use Rattle.erst_shadow.specs.ShadowTables.{scratch_at, entries_behind, pieces_of}
+use Rattle.erst_shadow.specs.ShadowTables.{entries_behind, pieces_of}
 use Rattle.erst_shadow.proofs.TableLemmas.{blank_with, put_behind, all_entries, erst_fits, IsShadow, is_shadow}
+use Rattle.erst_shadow.proofs.Terms.{scratch_at}
 use Rattle.erst_shadow.proofs.tables.shadow_table.Goals as goal
 
 is : (c : goal.After-finish) → IsShadow (pieces_of c.args.reach) c.finish.new.self

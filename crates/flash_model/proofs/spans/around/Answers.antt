@@ -1,6 +1,5 @@
 use Rattle.std.proofs.Common.{◌*◌, get_or, arith}
-use Rattle.flash_model.specs.Spans.{no_bytes}
-use Rattle.flash_model.proofs.SpanLemmas.{around_span, around_none, around_all}
+use Rattle.flash_model.proofs.SpanLemmas.{no_bytes, around_span, around_none, around_all}
 use Rattle.flash_model.proofs.spans.around.Goals as goal
 
 pub returns-then-number-spans-clause-around : goal.returns-then-number-spans-clause-around

@@ -3,8 +3,8 @@ use Rattle.std.proofs.lemmas.Nat.{div-add-mod'}
 use Rattle.std.proofs.lemmas.Bool.{cases_eq}
 use Rattle.base_model.specs.Bytes.{put_at}
 use Rattle.flash_model.specs.declared.spans.Span.{Span}
-use Rattle.flash_model.specs.Spans.{AreErasedBut, IsErasedBut, no_bytes}
-use Rattle.flash_model.proofs.SpanLemmas.{fills_sector, erases, erases_behind, known_of_none}
+use Rattle.flash_model.specs.Spans.{AreErasedBut, IsErasedBut}
+use Rattle.flash_model.proofs.SpanLemmas.{no_bytes, fills_sector, erases, erases_behind, known_of_none}
 use Rattle.flash_model.proofs.spans.erase.Goals as goal
 
 -- a place where a sector begins

@@ -2,8 +2,8 @@ use Rattle.std.proofs.Common.{ℕ, ◌+◌, ◌-◌, ◌*◌, ◌/◌, get_or, s
 use Rattle.std.proofs.Math.Nat.{div-mul-le_self}
 use Rattle.std.proofs.lemmas.Bool.{cases_lt}
 use Rattle.flash_model.specs.declared.spans.Span.{Span}
-use Rattle.flash_model.specs.Spans.{AreErasedBut, IsErasedBut, no_bytes}
-use Rattle.flash_model.proofs.SpanLemmas.{known_of_none, stays_widened, widened_none, widened_more, widened_all}
+use Rattle.flash_model.specs.Spans.{AreErasedBut, IsErasedBut}
+use Rattle.flash_model.proofs.SpanLemmas.{no_bytes, known_of_none, stays_widened, widened_none, widened_more, widened_all}
 use Rattle.flash_model.proofs.spans.widen.Goals as goal
 
 pub returns-then-sector-eq0-clause-known : goal.returns-then-sector-eq0-clause-known

@@ -1,7 +1,8 @@
 use Rattle.std.proofs.Common.{◌≡◌, ◌∙◌, ◌+◌, List, ◌∷◌, drop, length, sym, ap, subst, arith}
 use Rattle.apei_space.specs.declared.windows.Window.{Window}
 use Rattle.apei_space.specs.Windows.{total}
-use Rattle.ghes_hub.specs.Joins.{AreFree, AreJoined, MayJoin, joins}
+use Rattle.ghes_hub.specs.Joins.{AreFree, MayJoin, joins}
+use Rattle.ghes_hub.proofs.Terms.{AreJoined}
 use Rattle.ghes_hub.proofs.JoinLemmas.{next_at, may_join, one_joined, joins_sums, mapped_more}
 use Rattle.ghes_hub.proofs.joins.join_all.Goals as goal
 

@@ -3,7 +3,8 @@ use Rattle.apei_tables.specs.declared.registers.Place.{Place}
 use Rattle.apei_space.specs.declared.windows.Window.{Window}
 use Rattle.apei_space.specs.Mapped.{IsMapped}
 use Rattle.apei_space.specs.Windows.{total}
-use Rattle.ghes_hub.specs.Joins.{AreFree, AreJoined}
+use Rattle.ghes_hub.specs.Joins.{AreFree}
+use Rattle.ghes_hub.proofs.Terms.{AreJoined}
 use Rattle.ghes_hub.proofs.joins.join_all.Given as goal
 
 abbrev pub invariant-loop-range : goal.invariant-loop-range

@@ -1,11 +1,12 @@
 use Rattle.std.proofs.Common.{◌∙◌, ℕ, List, sym, subst}
 use Rattle.hex.specs.Hex.{encode_lower}
 use Rattle.script_text.specs.ScriptGrammar.{write}
-use Rattle.apei_script.specs.Plays.{IsPlayable, step_of}
+use Rattle.apei_script.specs.Plays.{IsPlayable}
 use Rattle.apei_script.specs.Sessions.{state_of}
 use Rattle.apei_cli.specs.Generated.{IsRefusedIf}
 use Rattle.apei_cli.proofs.RecordLemmas.{record_playable}
 use Rattle.apei_cli.proofs.GenerateLemmas.{write_refused, read_refused, clear_refused, next_refused}
+use Rattle.apei_script.specs.Bridged.{changes_in}
 use Rattle.apei_cli.proofs.generate.generator.play.Goals as goal
 
 pub write-requires : goal.write-requires
@@ -16,14 +17,14 @@ write-requires g c =
 pub returns-in-Write-clause-played : goal.returns-in-Write-clause-played
 returns-in-Write-clause-played g c =
     rw c.in-Write.is (subst (λ (bytes : List ℕ). IsRefusedIf c.is_err.result g.F.Flash.tells (state_of c.args.player.now.session) (write (encode_lower bytes)) (state_of c.write.new.self.session)) c.sample_record-record.ensures
-    (record { words = _; played = c.write.ensures.played; refused_is = c.is_err.ensures.value ∙ write_refused _ c.write.result (step_of (state_of c.write.new.self.session)) }))
+    (record { words = _; played = c.write.ensures.played; refused_is = c.is_err.ensures.value ∙ write_refused _ c.write.result (changes_in (state_of c.write.new.self.session).machine) }))
 
 pub returns-in-Clear-clause-played : goal.returns-in-Clear-clause-played
 returns-in-Clear-clause-played g c =
     rw c.in-Clear.is (record {
       words = _;
       played = c.clear.ensures.played;
-      refused_is = c.is_err-in-Clear.ensures.value ∙ clear_refused c.in-Clear.id c.clear.result (step_of (state_of c.clear.new.self.session));
+      refused_is = c.is_err-in-Clear.ensures.value ∙ clear_refused c.in-Clear.id c.clear.result (changes_in (state_of c.clear.new.self.session).machine);
     })
 
 pub returns-in-Read-clause-played : goal.returns-in-Read-clause-played
@@ -32,7 +33,7 @@ returns-in-Read-clause-played g c =
     rw c.in-Read.is (record {
       words = _;
       played = played.played;
-      refused_is = c.is_err-in-Read.ensures.value ∙ read_refused played.asked.shown c.read.result (step_of (state_of c.read.new.self.session));
+      refused_is = c.is_err-in-Read.ensures.value ∙ read_refused played.asked.shown c.read.result (changes_in (state_of c.read.new.self.session).machine);
     })
 
 pub returns-in-Next-clause-played : goal.returns-in-Next-clause-played
@@ -40,5 +41,5 @@ returns-in-Next-clause-played g c =
     rw c.in-Next.is (record {
       words = _;
       played = c.next.ensures.played;
-      refused_is = c.is_err-in-Next.ensures.value ∙ next_refused c.next.result (step_of (state_of c.next.new.self.session));
+      refused_is = c.is_err-in-Next.ensures.value ∙ next_refused c.next.result (changes_in (state_of c.next.new.self.session).machine);
     })

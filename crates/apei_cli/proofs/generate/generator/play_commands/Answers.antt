@@ -1,7 +1,9 @@
 use Rattle.std.proofs.Common.{◌≡◌, ◌∙◌, ℕ, ◌+◌, refl, subst, sym, ap}
 use Rattle.apei_script.specs.Sessions.{state_of}
-use Rattle.apei_cli.specs.Commands.{drawn_of, command_of, number_behind}
+use Rattle.apei_cli.specs.Commands.{command_of}
+use Rattle.apei_cli.proofs.GenerateLemmas.{number_behind}
 use Rattle.apei_cli.proofs.GenerateLemmas.{SoFar, SoFar-start, SoFar-next}
+use Rattle.std.specs.Prelude.{◌^◌, ◌/◌}
 use Rattle.apei_cli.proofs.generate.generator.play_commands.Goals as goal
 
 pub loop-init : goal.loop-init
@@ -18,6 +20,6 @@ loop-preserved g c =
           subst (λ (x : ℕ). SoFar g.F.Flash.tells (state_of c.args.player.now.session) c.args.seed (c.loop.counter + 1) (state_of c.play-refused.new.player.session) x c.count.new.self) (sym number)
           (SoFar-next g.F.Flash.tells (state_of c.args.player.now.session) c.args.seed c.loop.counter (state_of c.loop.player.session) (state_of c.play-refused.new.player.session) c.loop.number c.loop.tally
           c.count.new.self c.of-command.result c.play-refused.result c.loop.invariant.so_far
-          (c.of-command.ensures ∙ ap (λ (x : ℕ). command_of (drawn_of x)) number) c.play-refused.ensures.played c.stands.ensures.counted c.count.ensures);
+          (c.of-command.ensures ∙ ap (λ (x : ℕ). command_of (x / 2 ^ 33)) number) c.play-refused.ensures.played c.stands.ensures.counted c.count.ensures);
       listeners = c.play-refused.ensures.listeners ∙ c.loop.invariant.listeners;
     }

@@ -1,8 +1,8 @@
 use Rattle.std.proofs.Common.{ap, sym, ◌∙◌, length, slice_get, ◌≡◌}
 use Rattle.std.proofs.lemmas.Result.{on_ok_weaker, IfOk-weaker}
 use Rattle.ghes_ack.proofs.ElsewhereLemmas.{SameWhere-refl}
-use Rattle.ghes_hub.specs.Places.{IsOff}
-use Rattle.ghes_hub.specs.OneSource.{windows_of, waiting_of}
+use Rattle.ghes_hub.specs.Places.{IsOff, layout_windows}
+use Rattle.ghes_hub.specs.OneSource.{waiting_of, layout_in}
 use Rattle.ghes_hub.specs.SourcesState.{SourcesState}
 use Rattle.ghes_hub.proofs.SourceLemmas.{Moves, moves, same_layouts, of_view, served, others_stand, submits_at, stands_after, slice_get-same, if_some}
 use Rattle.ghes_hub.proofs.sources.Sources.submit.Goals as goal
@@ -13,7 +13,7 @@ moved : (c : After-submit) → Moves c.self.inside.ram c.self.inside.ram c.self.
 moved c =
     let before = c.index_mut.result.now in
     moves c.args.self.now c.self.inside.ram c.self.inside.ram c.self.inside.list.items c.args.source before c.submit.new.self c.self.view_is c.requires c.index_mut.ensures.value c.submit.ensures.places
-    (SameWhere-refl (IsOff (windows_of before)) c.self.inside.ram)
+    (SameWhere-refl (IsOff (layout_windows (layout_in before))) c.self.inside.ram)
 
 pub invariant_of-self : goal.invariant_of-self
 invariant_of-self c =

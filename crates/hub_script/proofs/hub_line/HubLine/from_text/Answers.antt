@@ -1,7 +1,8 @@
 use Rattle.std.proofs.Common.{arith}
 use Rattle.std.proofs.lemmas.Slice.{between_to_end}
 use Rattle.hub_script.specs.HubGrammar.{IsLine}
-use Rattle.hub_script.specs.HubWords.{codes_of, Follows}
+use Rattle.hub_script.proofs.Terms.{Follows}
+use Rattle.hub_script.proofs.Terms.{codes_of}
 use Rattle.hub_script.proofs.LineLemmas.{all_words, hubs}
 use Rattle.script_lines.proofs.KeywordLemmas.{behind_breaks, passed_all}
 use Rattle.hub_script.proofs.hub_line.HubLine.from_text.Goals as goal

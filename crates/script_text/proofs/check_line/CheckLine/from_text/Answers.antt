@@ -1,8 +1,8 @@
 use Rattle.std.proofs.Common.{arith}
 use Rattle.std.proofs.lemmas.Slice.{between_to_end}
 use Rattle.script_text.specs.CheckGrammar.{IsCheckLine}
-use Rattle.script_text.specs.CheckWords.{check_codes_of, all_check_words, CheckFollows}
-use Rattle.script_text.proofs.CheckLemmas.{checks}
+use Rattle.script_text.specs.CheckWords.{check_codes_of, CheckFollows}
+use Rattle.script_text.proofs.CheckLemmas.{all_check_words, checks}
 use Rattle.script_lines.proofs.KeywordLemmas.{behind_breaks, passed_all}
 use Rattle.script_text.proofs.check_line.CheckLine.from_text.Goals as goal
 

@@ -1,8 +1,8 @@
 use Rattle.std.proofs.Common.{arith}
 use Rattle.std.proofs.lemmas.Slice.{between_to_end}
 use Rattle.script_text.specs.ScriptGrammar.{IsLine}
-use Rattle.script_text.specs.ScriptText.{codes_of, all_words, Follows}
-use Rattle.script_text.proofs.ScriptLemmas.{script}
+use Rattle.script_text.specs.ScriptText.{codes_of, Follows}
+use Rattle.script_text.proofs.ScriptLemmas.{all_words, script}
 use Rattle.script_lines.proofs.KeywordLemmas.{behind_breaks, passed_all}
 use Rattle.script_text.proofs.script_line.ScriptLine.from_text.Goals as goal
 

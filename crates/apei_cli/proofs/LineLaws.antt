@@ -11,6 +11,7 @@ use Rattle.script_laws.specs.KeptCauses.{AllHaveCauses}
 use Rattle.apei_script.specs.Players.{PlayerState, GivenNoOther}
 use Rattle.apei_script.specs.Plays.{HasHappened}
 use Rattle.script_laws.specs.History.{Played, Follows, ShowsLines, ShowsEachLine, AreOwnLines}
+use Rattle.erst_bridge.specs.Bridges.{Off}
 
 -- what happens in lines, one after another, is one list
 abbrev pub AreOneList : Type 0 → Type 0
@@ -45,7 +46,7 @@ KeepsAllInStep tells = (wants : List (ℕ → Bool)) (counts : List ℕ) (first 
 -- each block that the reader clears or acknowledges under a bridge is the one that was stored last
 abbrev pub GivesAllStoredBack : Type 0 → Type 0
 GivesAllStoredBack tells = (wants : List (ℕ → Bool)) (counts : List ℕ) (first : PlayerState) (played : List Played) (last : PlayerState)
-    → IsMachine first.machine → Follows tells wants counts first played last → HasNoBridge first → AllGiveStoredBack None first played
+    → IsMachine first.machine → Follows tells wants counts first played last → (first.bridge ≡ Off) → AllGiveStoredBack None first played
 
 -- a turn that keeps its block for a failure of the flash has its cause
 abbrev pub GivesAllCauses : Type 0 → Type 0
