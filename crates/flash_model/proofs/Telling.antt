@@ -5,7 +5,7 @@ use borrow.Rule.Slice.PartMut.{put_mid}
 use Rattle.base_model.specs.Bytes.{part, put_at, SameOutside}
 use Rattle.base_model.proofs.BytesLemmas.{length-part, is_put_at}
 use Rattle.base_model.specs.Flash.{Told}
-use Rattle.flash_model.specs.Journal.{Noted, put_back, undone, noted_at, first_changes, told_by, AreBelow}
+use Rattle.flash_model.specs.Journal.{Noted, put_back, undone, noted_at, first_changes, AreBelow}
 use Rattle.flash_model.specs.Simulation.{with_change}
 
 -- bytes that were replaced, put back
@@ -77,6 +77,10 @@ first_changes-append journal noted (suc n) old new early made =
     let before : undone (journal ++ noted ∷ []) n new ≡ undone journal n old =
     undone-append journal noted n new ∙ ap (undone journal n) (put_back-noted noted n old new sooner made) in
     rw (earlier, found, before) refl
+
+-- what a flash with this journal tells after some steps, by its image
+abbrev told_by : List Noted → ℕ → List ℕ → Told
+told_by journal steps image = record { past = first_changes journal steps image; image = image }
 
 -- a change in the journal is told last
 pub told_by-append : (journal : List Noted) (noted : Noted) (old new : List ℕ) → AreBelow noted.step journal → IsNoted noted old new

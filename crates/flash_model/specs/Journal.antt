@@ -1,7 +1,7 @@
 -- The journal of a simulated flash: the bytes that each change replaced, from which its earlier images are told.
 use Rattle.std.specs.Prelude.{ℕ, zero, suc, ◌<◌, ◌==◌, nat_le, if◌then◌else◌, List, [], ◌∷◌, ◌++◌, length, Option, Some, None}
 use Rattle.base_model.specs.Bytes.{put_at}
-use Rattle.base_model.specs.Flash.{Change, Told}
+use Rattle.base_model.specs.Flash.{Change}
 
 -- a change in the journal: its number, its place, and the bytes that it replaced
 pub record Noted : Type 0 where

@@ -29,7 +29,7 @@ impl Content<'_> {
     {
         match self {
             Content::Bytes(bytes) => bytes.len(),
-            Content::Erased { len, span: _ } => len,
+            Content::Erased { len, .. } => len,
         }
     }
 
@@ -41,7 +41,7 @@ impl Content<'_> {
     {
         match self {
             Content::Bytes(_) => Replaced::erased(old),
-            Content::Erased { len: _, span } => Replaced::within(old, span),
+            Content::Erased { span, .. } => Replaced::within(old, span),
         }
     }
 
@@ -53,7 +53,7 @@ impl Content<'_> {
     {
         match self {
             Content::Bytes(bytes) => image[at..at + bytes.len()].copy_from_slice(bytes),
-            Content::Erased { len: _, span: _ } => fill_range(image, at + kept.at, kept.len, ERASED),
+            Content::Erased { .. } => fill_range(image, at + kept.at, kept.len, ERASED),
         }
     }
 

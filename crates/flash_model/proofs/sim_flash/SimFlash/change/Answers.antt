@@ -51,12 +51,11 @@ spans_so : (c : After-widen) → SameOutside c.args.at (length (bytes_of c.args.
 spans_so c same =
     let spans = c.deref_mut-2.ensures.value in
     let count : length c.widen.new.spans ≡ length c.self.inside.spans.items = c.widen.ensures.sectors ∙ ap (length {A = Span}) spans in
-    let within : length c.self.inside.spans.items * c.self.inside.sector ≤ length c.self.inside.image.items = c.self.invariant.2 in
-    (
+    let within : length c.self.inside.spans.items * c.self.inside.sector ≤ length c.self.inside.image.items = c.self.invariant.2 in (
       rw (count, same.same_length) within,
       c.widen.ensures.known c.self.inside.image.items c.leave.new.image
-      (subst (λ (n : ℕ). SameOutside c.args.at n c.self.inside.image.items c.leave.new.image) (sym c.len-2.ensures) same)
-      (subst (λ (known : List Span). AreErasedBut known c.self.inside.sector c.self.inside.image.items) (sym spans) c.self.invariant.3)
+          (subst (λ (n : ℕ). SameOutside c.args.at n c.self.inside.image.items c.leave.new.image) (sym c.len-2.ensures) same)
+          (subst (λ (known : List Span). AreErasedBut known c.self.inside.sector c.self.inside.image.items) (sym spans) c.self.invariant.3),
     )
 
 pub replaced-replaced-requires-clause-may : goal.replaced-replaced-requires-clause-may

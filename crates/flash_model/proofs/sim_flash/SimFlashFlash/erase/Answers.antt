@@ -67,11 +67,11 @@ invariant_of-self c =
     let known : AreErasedBut c.deref_mut.result.now n image =
     subst (λ (spans : List Span). AreErasedBut spans n image) (sym c.deref_mut.ensures.value)
     (subst (λ (k : ℕ). AreErasedBut c.self-2.inside.spans.items k image) same c.self-2.invariant.3) in
-    let now : AreErasedBut c.clear.new.spans n image = c.clear.ensures.known image within erased known in
-    (
-      c.self-2.invariant.0, c.self-2.invariant.1,
+    let now : AreErasedBut c.clear.new.spans n image = c.clear.ensures.known image within erased known in (
+      c.self-2.invariant.0,
+      c.self-2.invariant.1,
       rw (spans, count) c.self-2.invariant.2,
-      rw spans (subst (λ (k : ℕ). AreErasedBut c.clear.new.spans k image) (sym same) now)
+      rw spans (subst (λ (k : ℕ). AreErasedBut c.clear.new.spans k image) (sym same) now),
     )
 
 pub returns-then-is_ok-clause-bytes : goal.returns-then-is_ok-clause-bytes
