@@ -47,7 +47,7 @@ def imports(text: str) -> dict[str, str]:
     for module, names in USE.findall(text):
         for name in names.split(","):
             outer, _, inner = name.strip().partition(" as ")
-            found[inner or outer] = f"{module}.{outer}"
+            found[inner or outer.rpartition(".")[2]] = f"{module}.{outer}"
     return found
 
 

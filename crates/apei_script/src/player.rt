@@ -9,7 +9,6 @@ ghost use Rattle.script_text.specs.ScriptText.{line_of};
 ghost use Rattle.apei_notify.specs.Chains.{members_of};
 ghost use Rattle.apei_script.specs.declared.player.PlayStop.TheVariants.{SinkFault as TheSinkFault};
 ghost use Rattle.erst_bridge.specs.Bridges.{Off};
-ghost use Rattle.erst_bridge.specs.Bridges.{Off};
 ghost use Rattle.erst_machine.specs.MachineState.{IsMachine};
 ghost use Rattle.erst_machine.specs.Shown.{changes_of};
 ghost use Rattle.apei_script.specs.Plays.{IsPlayable, Stops, has_one_reply};
@@ -108,7 +107,8 @@ impl<F: Flash> Player<F> {
         ensures unwritten { result ≡ Err PlayStop.SinkFault → IsUnwritten hearing F.tells
             (stream_of O.tells (O.written out.old) (O.written out.new)) self.old (line_of line.now) self.new }
         ensures stopped { IfErr result (λ stop. stop ≢ PlayStop.SinkFault
-            → (Stops F.tells (state_of self.old.session) (line_of line.now) (state_of self.new.session) stop × (members_of self.new.chain ≡ members_of self.old.chain)) × (out.new ≡ out.old)) }
+            → (Stops F.tells (state_of self.old.session) (line_of line.now) (state_of self.new.session) stop
+            × (members_of self.new.chain ≡ members_of self.old.chain)) × (out.new ≡ out.old)) }
         ensures fault { result ≡ Err PlayStop.SinkFault → Rose (O.faults out.old) (O.faults out.new) }
         ensures no_fault { result ≢ Err PlayStop.SinkFault → O.faults out.new ≡ O.faults out.old }
     {

@@ -25,7 +25,8 @@ pub fn put_number(reply: &mut Reply, word: &[u8], n: u64)
 pub fn put_record(reply: &mut Reply, bytes: &[u8])
     requires least { 128 ≤ length bytes.now }
     requires most { length bytes.now ≤ 65536 }
-    ensures { IsMade reply.new (codes "record " ++ decimal (id_of bytes.now) ++ codes " " ++ decimal (length bytes.now) ++ codes " " ++ encode_lower bytes.now) }
+    ensures { IsMade reply.new (codes "record " ++ decimal (id_of bytes.now) ++ codes " "
+        ++ decimal (length bytes.now) ++ codes " " ++ encode_lower bytes.now) }
 {
     put_bytes(reply, b"record ", get_u64(bytes, ID_AT), bytes);
 }

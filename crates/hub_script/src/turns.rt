@@ -3,6 +3,7 @@ ghost use Rattle.std.specs.Prelude.{◌≡◌, ◌+◌, ◌*◌, ◌<◌, ◌≤
 ghost use Rattle.base_model.specs.Faults.{HasCause};
 ghost use Rattle.apei_notify.specs.Chains.{boxed};
 ghost use Rattle.ghes_ack.specs.declared.events.Event.TheVariants.{Took};
+ghost use Rattle.ghes_hub.specs.{Hubs.sources_in, Hubs.HubTurns, Hubs.last_in, Runs.takes, Runs.told_at, Seen.seen};
 ghost use Rattle.hub_script.specs.HubGrammar.{turns};
 ghost use Rattle.hub_script.specs.Turns.{AreTurns};
 ghost use Rattle.hub_script.specs.Stages.{Serving};

@@ -54,8 +54,8 @@ use Rattle.apei_script.specs.Tables.{ATTACH_STEPS, BeginsWith}
 use Rattle.apei_script.proofs.ShadowGiving.{GivesShadow}
 use Rattle.apei_script.specs.Bridged.{bridge_refusal, words_of_turn, words_of_steps, block_of, replies_of}
 use Rattle.apei_script.specs.Plays.{Plays, changes_in, played_as}
-use Rattle.script_laws.specs.History.{Played, heard_of, heard_after, Follows, text_of, reply_of}
-use Rattle.script_laws.specs.Equivalence.{EquivalentPlayers, own_player, WantAlike, lines_in, said_in, taken_in, PlayedAlike}
+use Rattle.script_laws.specs.History.{Played, heard_after, Follows, text_of}
+use Rattle.script_laws.specs.Equivalence.{EquivalentPlayers, PlayedAlike}
 use Rattle.apei_script.proofs.PlayLemmas.{with_machine}
 use Rattle.script_laws.proofs.HistoryLemmas.{history_goes_on}
 use Rattle.apei_script.proofs.TurnsAlike.{turned_alike}

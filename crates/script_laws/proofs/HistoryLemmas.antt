@@ -23,7 +23,7 @@ use Rattle.erst_shadow.specs.ShadowCommands.{shadow_client}
 use Rattle.apei_script.specs.Players.{PlayerState, UsesOwn, UsesShadow, UsesEither, budget_of}
 use Rattle.apei_script.specs.Plays.{Plays, Blank, ByClient, GivenTable, OwnTable, GivenShadow, OnMachine, ByTheBridge, OnlyTells, Reset, Power, HasHappened, LinePlayed, names_command, IsOwnLine, played_as}
 use Rattle.script_laws.proofs.Terms.{GivenNoOther}
-use Rattle.script_laws.specs.History.{Played, heard_after, Follows, EndInOrder, ShowsLines, ShowsEachLine, AreOwnLines, IsMapped, IsShadowMapped, AreMapped, NoneSaysHardware, AllGoThrough, AlwaysUsesEither}
+use Rattle.script_laws.specs.History.{Played, heard_after, Follows, EndInOrder, ShowsLines, ShowsEachLine, AreOwnLines, AreMapped, NoneSaysHardware, AllGoThrough, AlwaysUsesEither}
 use Rattle.script_laws.specs.History.{IsMappedBy}
 use Rattle.apei_script.proofs.BridgeLemmas.{ShowsLine}
 use Rattle.apei_script.proofs.EventChanges.{along}

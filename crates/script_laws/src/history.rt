@@ -116,7 +116,8 @@ pub fn equivalent_machines_make_equivalent_players()
 /// are the blocks that the operating system takes and the records at the end. Where the records stand plays no part in it.
 pub fn scripts_play_alike<F: Flash>()
     ensures { F.tells → (wants wants_too : List (ℕ → Bool)) (counts : List ℕ) (one also : PlayerState)
-        (first second : List Played) (one_last also_last : PlayerState) → AllZip (λ want wants_too. (severity : ℕ) → want severity ≡ wants_too severity) wants wants_too
+        (first second : List Played) (one_last also_last : PlayerState)
+        → AllZip (λ want wants_too. (severity : ℕ) → want severity ≡ wants_too severity) wants wants_too
         → EquivalentPlayers one also → IsMachine one.machine → map (λ (played : Played). played.line) first ≡ map (λ (played : Played). played.line) second
         → Follows F.tells wants counts one first one_last → FailedNothing one.machine one_last.machine
         → Follows F.tells wants_too counts also second also_last → FailedNothing also.machine also_last.machine
@@ -134,7 +135,8 @@ pub fn booted_scripts_play_alike<F: Flash>()
         → flash.steps ≡ flash_too.steps → second_copies geometry.slot_size geometry.slots flash.told.image
         ≡ second_copies geometry.slot_size geometry.slots flash_too.told.image → BootsFrom geometry flash one
         → BootsFrom geometry flash_too also → (wants : List (ℕ → Bool)) (counts : List ℕ) (steps : Option ℕ)
-        (first second : List Played) (one_last also_last : PlayerState) → map (λ (played : Played). played.line) first ≡ map (λ (played : Played). played.line) second
+        (first second : List Played) (one_last also_last : PlayerState)
+        → map (λ (played : Played). played.line) first ≡ map (λ (played : Played). played.line) second
         → Follows F.tells wants counts (own_player one steps) first one_last → FailedNothing one one_last.machine
         → Follows F.tells wants counts (own_player also steps) second also_last → FailedNothing also also_last.machine
         → PlayedAlike first second one_last also_last }
