@@ -11,7 +11,7 @@ use Rattle.apei_script.specs.Players.{PlayerState}
 use Rattle.apei_script.specs.Words.{reply_at, words_of_write, words_of_read, words_of_clear, words_of_count, words_of_next, text_of_replies}
 use Rattle.apei_script.specs.Plays.{IsOwnLine, one_reply}
 use Rattle.apei_script.specs.Sessions.{CommandPlayed}
-use Rattle.script_laws.specs.History.{Played, AreOwnLines, blocks_of, reply_of}
+use Rattle.script_laws.specs.History.{Played, AreOwnLines, blocks_of}
 use Rattle.script_lines.specs.Streams.{stream_of}
 use Rattle.apei_cli.specs.declared.generate.command.Command.{Command}
 use Rattle.apei_cli.specs.declared.generate.command.Command.TheVariants.{Write, Clear, Read, Next}

@@ -6,7 +6,7 @@ use Rattle.erst_machine.specs.MachineState.{IsMachine, told_of}
 use Rattle.erst_machine.specs.Shown.{changes_of, shown_by}
 use Rattle.erst_commands.specs.Attached.{own_client}
 use Rattle.script_laws.specs.Spares.{KeepsAll}
-use Rattle.script_laws.specs.Orders.{HasNoBridge, IsInStep, AlwaysInStep, AllGiveStoredBack}
+use Rattle.script_laws.specs.Orders.{IsInStep, AlwaysInStep, AllGiveStoredBack}
 use Rattle.script_laws.specs.KeptCauses.{AllHaveCauses}
 use Rattle.apei_script.specs.Players.{PlayerState, GivenNoOther}
 use Rattle.apei_script.specs.Plays.{HasHappened}

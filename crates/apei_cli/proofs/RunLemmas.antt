@@ -15,7 +15,7 @@ use Rattle.apei_script.specs.Players.{PlayerState}
 use Rattle.apei_script.specs.Words.{Reply, text_of_replies}
 use Rattle.apei_script.specs.Plays.{Stage, LinePlayed, HasHappened, FailsRestart, PartlyWritten, PlaysLine, PlaysUnwritten, Stops, Told, stage_in, played_as}
 use Rattle.erst_machine.specs.Shown.{changes_of}
-use Rattle.script_laws.specs.History.{Played, Follows, AreCounted, blocks_of, reply_of, text_of, heard_after}
+use Rattle.script_laws.specs.History.{Played, Follows, AreCounted, blocks_of, text_of, heard_after}
 use Rattle.script_lines.specs.Ends.{EndsReading}
 use Rattle.script_lines.specs.declared.ending.ScriptEnd.{ScriptEnd}
 use Rattle.script_lines.specs.declared.ending.ScriptEnd.TheVariants as ending

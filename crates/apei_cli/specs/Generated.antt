@@ -5,7 +5,7 @@ use Rattle.script_text.specs.ScriptGrammar.{Line, text_of}
 use Rattle.apei_script.specs.Players.{PlayerState}
 use Rattle.apei_script.specs.Words.{reply_at, text_of_replies}
 use Rattle.apei_script.specs.Sessions.{CommandPlayed}
-use Rattle.script_laws.specs.History.{Played, Follows, AreCounted, AreOwnLines, blocks_of, reply_of}
+use Rattle.script_laws.specs.History.{Played, Follows, AreCounted, AreOwnLines, blocks_of}
 use Rattle.apei_cli.specs.declared.generate.tally.Tally.{Tally}
 use Rattle.apei_cli.specs.Commands.{generated_lines}
 use Rattle.apei_script.specs.Bridged.{changes_in}

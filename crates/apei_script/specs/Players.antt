@@ -38,6 +38,10 @@ UsesShadow state = client_of state ≡ shadow_client state.machine
 abbrev pub UsesEither : PlayerState → Type 0
 UsesEither state = UsesOwn state ⊎ UsesShadow state
 
+-- no line gave a table but the machine's own two
+abbrev pub GivenNoOther : PlayerState → Type 0
+GivenNoOther state = (state.other ≡ None) ⊎ (state.other ≡ Some (shadow_client state.machine))
+
 -- the player of a machine right after a client attached to the machine's own table, which leaves its timings in VALUE
 abbrev pub own_player : MachineState → Option ℕ → PlayerState
 own_player machine steps = record {

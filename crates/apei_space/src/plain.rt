@@ -36,7 +36,8 @@ impl Model for Ram {
 
     ghost view = { λ r. record { windows = r.windows.items; bytes = r.bytes.items; waited = r.waited } };
 
-    ghost invariant = { λ r. (total r.windows.items ≡ length r.bytes.items) × (length r.bytes.items < 2 ^ 63) × AreApart r.windows.items × All (IsStretch r.windows.items) r.table.stretches.items };
+    ghost invariant = { λ r. (total r.windows.items ≡ length r.bytes.items) × (length r.bytes.items < 2 ^ 63)
+        × AreApart r.windows.items × All (IsStretch r.windows.items) r.table.stretches.items };
 }
 
 impl Ram {

@@ -22,12 +22,9 @@ base_of Handover = 0x300000
 base_of BootErrors = 0x400000
 base_of Ports = 0x500
 
--- how many bytes the plain memory, that of the handover and the boot error region have
+-- how many bytes the plain memory and the boot error region have
 abbrev pub scratch_len : ℕ
 scratch_len = 4096
-
-abbrev pub handover_len : ℕ
-handover_len = 8192
 
 abbrev pub region_len : ℕ
 region_len = 16384
@@ -37,7 +34,7 @@ abbrev pub size_of : ℕ → Area → ℕ
 size_of reach Device = 16
 size_of reach Scratch = scratch_len
 size_of reach LogRange = reach
-size_of reach Handover = handover_len
+size_of reach Handover = 8192
 size_of reach BootErrors = region_len
 size_of reach Ports = 16
 

@@ -3,7 +3,7 @@ use Rattle.std.specs.Prelude.{◌≡◌, ℕ, ◌≤◌, List, [], ◌∷◌, le
 pub use Rattle.base_model.specs.Bytes.{zeros}
 use Rattle.apei_tables.specs.declared.registers.Place.TheVariants.{Memory}
 use Rattle.apei_space.specs.RamState.{RamState}
-use Rattle.erst_machine.specs.Areas.{base_of, scratch_len, handover_len, region_len, size_of}
+use Rattle.erst_machine.specs.Areas.{base_of, scratch_len, region_len, size_of}
 use Rattle.erst_machine.specs.declared.areas.Area.{Area}
 use Rattle.erst_machine.specs.declared.areas.Area.TheVariants.{Device, Scratch, LogRange, Handover, BootErrors, Ports}
 use Rattle.erst_machine.specs.declared.contents.Contents.{Contents}
@@ -57,7 +57,7 @@ IsWritable area = ⊥
 
 -- the handover's memory before its first start, with its one window
 abbrev pub blank : RamState
-blank = record { windows = (record { place = Memory (base_of Handover); len = handover_len }) ∷ []; bytes = zeros handover_len; waited = 0 }
+blank = record { windows = (record { place = Memory (base_of Handover); len = size_of 0 Handover }) ∷ []; bytes = zeros (size_of 0 Handover); waited = 0 }
 
 -- each area is as long as the map says, and the log range ends before the device
 pub record HasSizes (reach : ℕ) (memory : MemoryState) : Type 0 where

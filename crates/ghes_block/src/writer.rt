@@ -172,8 +172,13 @@ impl<'a> BlockWriter<'a> {
         // The first bytes are exactly the block of the entries that were given and this raw data, with the raw offset 0 where
         // there is no raw data.
         ensures written { IfOk result (λ size. (before : List ℕ) (given : List EntryValue)
-            → IsWriting before given self.entry → IsWritten (record { status = self.entry.status; severity = self.entry.severity; entries = given; raw = raw.now; size = size })
-            (used_by self.entry) before self.exit.0.now) }
+            → IsWriting before given self.entry → IsWritten (record {
+              status = self.entry.status;
+              severity = self.entry.severity;
+              entries = given;
+              raw = raw.now;
+              size = size;
+            }) (used_by self.entry) before self.exit.0.now) }
         ensures used { IfOk result (λ size. size ≡ used_by self.entry + length raw.now) }
         // It is refused exactly where there is no room for the raw data.
         ensures refused { NeedsRoom (used_by self.entry + length raw.now) (room_of self.entry) result }

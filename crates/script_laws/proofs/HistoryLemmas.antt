@@ -20,9 +20,8 @@ use Rattle.script_text.specs.ScriptGrammar.{Line}
 use Rattle.apei_script.specs.Words.{Reply}
 use Rattle.erst_client.specs.Commands.{ClientState}
 use Rattle.erst_shadow.specs.ShadowCommands.{shadow_client}
-use Rattle.apei_script.specs.Players.{PlayerState, UsesOwn, UsesShadow, UsesEither, budget_of}
+use Rattle.apei_script.specs.Players.{PlayerState, UsesOwn, UsesShadow, UsesEither, budget_of, GivenNoOther}
 use Rattle.apei_script.specs.Plays.{Plays, Blank, ByClient, GivenTable, OwnTable, GivenShadow, OnMachine, ByTheBridge, OnlyTells, Reset, Power, HasHappened, LinePlayed, names_command, IsOwnLine, played_as}
-use Rattle.script_laws.proofs.Terms.{GivenNoOther}
 use Rattle.script_laws.specs.History.{Played, heard_after, Follows, EndInOrder, ShowsLines, ShowsEachLine, AreOwnLines, AreMapped, NoneSaysHardware, AllGoThrough, AlwaysUsesEither}
 use Rattle.script_laws.specs.History.{IsMappedBy}
 use Rattle.apei_script.proofs.BridgeLemmas.{ShowsLine}

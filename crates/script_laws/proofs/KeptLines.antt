@@ -26,12 +26,11 @@ use Rattle.erst_bridge.specs.Turns.{Step, AreTurns}
 use Rattle.erst_bridge.specs.Shown.{IsStoredAs}
 use Rattle.erst_bridge.proofs.KeptRecordLemmas.{stored_after}
 use Rattle.script_text.specs.ScriptGrammar.{Line, write, clear}
-use Rattle.apei_script.specs.Players.{PlayerState, client_of, budget_of}
+use Rattle.apei_script.specs.Players.{PlayerState, client_of, budget_of, GivenNoOther}
 use Rattle.apei_script.specs.Words.{Reply}
 use Rattle.apei_script.specs.Mapped.{after_line}
 use Rattle.apei_script.specs.Bridged.{ByBridge, Enters, StaysAs, BridgesTurns, KeepsBlocks}
 use Rattle.apei_script.specs.Plays.{Plays, ByTheBridge, LinePlayed, IsOwnLine, played_as}
-use Rattle.script_laws.proofs.Terms.{GivenNoOther}
 use Rattle.script_laws.specs.History.{Played, heard_after, Follows, ShowsLines, AreOwnLines}
 use Rattle.script_laws.specs.Spares.{SpareLines, KeepsAll}
 use Rattle.apei_script.proofs.BridgeLemmas.{ShowsLine}

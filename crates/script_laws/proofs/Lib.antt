@@ -1,4 +1,3 @@
-pub mod Terms
 pub mod HistoryLemmas
 pub mod LineKinds
 pub mod EquivalenceLemmas

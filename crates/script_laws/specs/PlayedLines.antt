@@ -1,8 +1,7 @@
 -- Lines that were played one after another, as one thing.
-use Rattle.std.specs.Prelude.{◌≡◌, ℕ, ◌⊎◌, Bool, List, Some, None}
+use Rattle.std.specs.Prelude.{◌≡◌, ℕ, Bool, List}
 use Rattle.erst_commands.specs.Attached.{own_client}
-use Rattle.erst_shadow.specs.ShadowCommands.{shadow_client}
-use Rattle.apei_script.specs.Players.{PlayerState}
+use Rattle.apei_script.specs.Players.{PlayerState, GivenNoOther}
 use Rattle.script_laws.specs.History.{Played, Follows, AreOwnLines}
 
 -- the player before them, the lines, and the player behind the last one; `wants` are the severities that each listener wants, and `counts`
@@ -19,5 +18,5 @@ pub record PlayedLines (tells : Type 0) : Type 0 where
 -- runs an action or gives a table
 pub record UseOwnTables (tells : Type 0) (lines : PlayedLines tells) : Type 0 where
   pub own : lines.first.own ≡ own_client lines.first.machine
-  pub no_other : (lines.first.other ≡ None) ⊎ (lines.first.other ≡ Some (shadow_client lines.first.machine))
+  pub no_other : GivenNoOther lines.first
   pub own_lines : AreOwnLines lines.played

@@ -24,7 +24,8 @@ pub fn check_bert<O: Sink>(bytes: &[u8], show: Show, out: &mut O) -> Result<(), 
 
 /// The line on a table of `len` bytes with `rest` behind it.
 fn table_line(table: &Bert, len: usize, rest: usize) -> LineText
-    ensures text { result ≡ codes "bert " ++ decimal len ++ codes " region " ++ decimal table.now.region ++ codes " bytes " ++ decimal table.now.len ++ codes " rest " ++ decimal rest }
+    ensures text { result ≡ codes "bert " ++ decimal len ++ codes " region " ++ decimal table.now.region
+        ++ codes " bytes " ++ decimal table.now.len ++ codes " rest " ++ decimal rest }
     ensures short { length result ≤ 255 }
 {
     let mut line = LineText::new();
