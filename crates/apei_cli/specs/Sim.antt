@@ -38,7 +38,6 @@ new_flash plan sector image = record {
   failing_reads = option_to_list plan.fail_read;
   reads = 0;
   faults = 0;
-  starved = 0;
   unpowered = 0;
   restarts = 0;
 }

@@ -1,4 +1,3 @@
-pub mod Walks
 pub mod Puts
 pub mod Dues
 pub mod Logs

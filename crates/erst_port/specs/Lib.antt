@@ -1,4 +1,3 @@
-pub mod Pasts
 pub mod Dues
 pub mod Contents
 pub mod Logs

@@ -16,7 +16,6 @@ mod mirror;
 mod mirror_laws;
 mod moving;
 mod open;
-mod past;
 mod port;
 mod saving;
 mod table;

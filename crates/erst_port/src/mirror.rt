@@ -11,9 +11,8 @@ ghost use Rattle.flash_model.specs.Spans.{AreErasedBut};
 use crate::content::Content;
 use crate::due::{Due, Kind};
 use crate::log::{Log, Range, log_room};
-use crate::past::{Before, Past};
 use flash_model::spans::{Span, all_bytes};
-use flash_model::{Flash, FlashFailed, copy_range, next_count};
+use flash_model::{Before, Flash, FlashFailed, Past, copy_range, next_count};
 use std::alloc::{AllocError, Global};
 
 /// Flash in memory that tells which changes it made: the first ones, as many as its log has room for, and the last one.

@@ -1,5 +1,5 @@
 -- What a change of a simulated flash leaves is what every flash owes.
-use Rattle.std.proofs.Common.{◌≡◌, ℕ, ◌+◌, ◌-◌, ◌^◌, ◌<◌, ◌≤◌, ◌⊎◌, inl, inr, ◌↔◌, Bool, true, false, cond, List, [], ◌∷◌, length, replicate, Option, Some, None, Result, Ok, Err, is_err, IsErr, OnOk, OnErr, is_some, refl, sym, ap, subst, ◌∙◌, arith, length-append}
+use Rattle.std.proofs.Common.{◌≡◌, ℕ, ◌+◌, ◌-◌, ◌^◌, ◌<◌, ◌≤◌, inl, inr, ◌↔◌, Bool, true, false, cond, List, [], ◌∷◌, length, replicate, Option, Some, None, Result, Ok, Err, is_err, IsErr, OnOk, OnErr, is_some, refl, sym, ap, subst, ◌∙◌, arith, length-append}
 use Rattle.std.specs.Prelude.{◌==◌}
 use Rattle.std.proofs.lemmas.List.{length-replicate}
 use Rattle.base_model.specs.Bytes.{put_at, SameOutside}
@@ -10,7 +10,7 @@ use Rattle.flash_model.specs.declared.tear.Tear.{Tear}
 use Rattle.flash_model.specs.declared.tear.Tear.TheVariants.{Nothing, Whole, Zeros, Marks}
 use Rattle.flash_model.specs.declared.power.Power.{Power}
 use Rattle.flash_model.specs.declared.power.Power.TheVariants.{On, Until, Lost}
-use Rattle.flash_model.specs.Simulation.{Simulation, has_power, power_after, listed_tear, Fate, Uncounted, Unpowered, Reaches, steps_of, state_of, tear_at, fate_under, fate_of, image_left, with_change, faults_after, after_starved, MayFollow, FailsBy, ChangeFails}
+use Rattle.flash_model.specs.Simulation.{Simulation, has_power, power_after, listed_tear, Fate, Uncounted, Unpowered, Reaches, steps_of, state_of, tear_at, fate_under, fate_of, image_left, with_change, faults_after, after_change, FailsBy, ChangeFails}
 
 -- the fate, by the count and the power
 pub fate_of-last : (flash : Simulation) → steps_of flash ≡ 2 ^ 64 - 1 → fate_of flash ≡ Uncounted
@@ -171,22 +171,10 @@ AsksChange-done at len old new (Ok x) succeeded changed sector steps reads fault
   done = λ _. changed;
 }
 
-AsksChange-starved : {T E : Type 0} (at len : ℕ) (old new : Simulation) (result : Result T E) → IsErr result
-    → steps_of new ≡ next_count (steps_of old) → old.faults < 2 ^ 64 → has_power old.power ≡ true → new ≡ after_starved old
-    → AsksChange (Unit {0}) at len (state_of old) (state_of new) result
-AsksChange-starved at len old new result failed steps small on follows =
-    AsksChange-failed at len old new result failed
-    (inr (inr (Changed-with_change old.told new.told 0 0 old.told.image (ap (λ (flash : Simulation). flash.told) follows) (SameOutside-refl 0 0 old.told.image))))
-    (ap (λ (flash : Simulation). length flash.told.image) follows)
-    (ap (λ (flash : Simulation). flash.sector_size) follows) steps (ap (λ (flash : Simulation). flash.reads) follows) small
-    (ap (λ (flash : Simulation). flash.faults) follows)
-    (power-changed 0 0 old.told.image old new (ap (λ (flash : Simulation). flash.told) follows) (ap (λ (flash : Simulation). flash.power) follows))
-    (unpowered-lit old new.unpowered on (ap (λ (flash : Simulation). flash.unpowered) follows)) (ap (λ (flash : Simulation). flash.restarts) follows)
-
 -- whatever its fate
 AsksChange-by : {T E : Type 0} (fate : Fate) (at : ℕ) (bytes : List ℕ) (old new : Simulation) (result : Result T E)
     → at + length bytes ≤ length old.told.image → steps_of new ≡ next_count (steps_of old) → old.faults < 2 ^ 64
-    → (fate ≡ Reaches None → has_power (power_after old.power (steps_of old)) ≡ true) → FindsPower fate old.power → MayFollow fate old at bytes new → IsErr result ↔ FailsBy fate old new
+    → (fate ≡ Reaches None → has_power (power_after old.power (steps_of old)) ≡ true) → FindsPower fate old.power → new ≡ after_change fate old at bytes → IsErr result ↔ FailsBy fate
     → AsksChange (Unit {0}) at (length bytes) (state_of old) (state_of new) result
 AsksChange-by Uncounted at bytes old new result within steps small powered finds follows fails =
     AsksChange-failed at (length bytes) old new result (fails.1 tt)
@@ -203,10 +191,9 @@ AsksChange-by Unpowered at bytes old new result within steps small powered finds
     (ap (λ (flash : Simulation). flash.faults) follows)
     (power-kept old new (ap (λ (flash : Simulation). flash.power) follows))
     (unpowered-lost old new.unpowered finds (ap (λ (flash : Simulation). flash.unpowered) follows)) (ap (λ (flash : Simulation). flash.restarts) follows)
-AsksChange-by (Reaches None) at bytes old new result within steps small powered finds (inl follows) fails =
+AsksChange-by (Reaches None) at bytes old new result within steps small powered finds follows fails =
     AsksChange-done at (length bytes) old new result
-    (λ failed. let rose : old.starved < new.starved = fails.0 failed in
-    let same : new.starved ≡ old.starved = ap (λ (flash : Simulation). flash.starved) follows in absurd (omega arith))
+    (λ failed. fails.0 failed)
     (Changed-with_change old.told new.told at (length bytes) (image_left None old.told.image at bytes)
     (ap (λ (flash : Simulation). flash.told) follows) (SameOutside-image_left None old.told.image at bytes within))
     (ap (λ (flash : Simulation). flash.sector_size) follows) steps (ap (λ (flash : Simulation). flash.reads) follows)
@@ -214,7 +201,7 @@ AsksChange-by (Reaches None) at bytes old new result within steps small powered 
     (power-changed at (length bytes) (image_left None old.told.image at bytes) old new (ap (λ (flash : Simulation). flash.told) follows) (ap (λ (flash : Simulation). flash.power) follows))
     (ap has_power (ap (λ (flash : Simulation). flash.power) follows) ∙ powered refl)
     (unpowered-lit old new.unpowered finds (ap (λ (flash : Simulation). flash.unpowered) follows)) (ap (λ (flash : Simulation). flash.restarts) follows)
-AsksChange-by (Reaches (Some tear)) at bytes old new result within steps small powered finds (inl follows) fails =
+AsksChange-by (Reaches (Some tear)) at bytes old new result within steps small powered finds follows fails =
     let changed = Changed-with_change old.told new.told at (length bytes) (image_left (Some tear) old.told.image at bytes)
     (ap (λ (flash : Simulation). flash.told) follows) (SameOutside-image_left (Some tear) old.told.image at bytes within) in
     AsksChange-failed at (length bytes) old new result (fails.1 tt)
@@ -223,34 +210,26 @@ AsksChange-by (Reaches (Some tear)) at bytes old new result within steps small p
     (ap (λ (flash : Simulation). flash.faults) follows)
     (power-changed at (length bytes) (image_left (Some tear) old.told.image at bytes) old new (ap (λ (flash : Simulation). flash.told) follows) (ap (λ (flash : Simulation). flash.power) follows))
     (unpowered-lit old new.unpowered finds (ap (λ (flash : Simulation). flash.unpowered) follows)) (ap (λ (flash : Simulation). flash.restarts) follows)
-AsksChange-by (Reaches None) at bytes old new result within steps small powered finds (inr follows) fails =
-    let rose : new.starved ≡ old.starved + 1 = ap (λ (flash : Simulation). flash.starved) follows in
-    AsksChange-starved at (length bytes) old new result (fails.1 (omega arith)) steps small finds follows
-AsksChange-by (Reaches (Some tear)) at bytes old new result within steps small powered finds (inr follows) fails =
-    AsksChange-starved at (length bytes) old new result (fails.1 tt) steps small finds follows
 
 pub AsksChange-follows : {T E : Type 0} (at : ℕ) (bytes : List ℕ) (old new : Simulation) (result : Result T E)
     → at + length bytes ≤ length old.told.image → steps_of new ≡ next_count (steps_of old) → old.faults < 2 ^ 64
-    → MayFollow (fate_of old) old at bytes new → IsErr result ↔ ChangeFails old new
+    → new ≡ after_change (fate_of old) old at bytes → IsErr result ↔ ChangeFails old
     → AsksChange (Unit {0}) at (length bytes) (state_of old) (state_of new) result
 AsksChange-follows at bytes old new result within steps small follows fails =
     AsksChange-by (fate_of old) at bytes old new result within steps small (reaches_powered old) (finds_power old) follows fails
 
 -- an Ok did the change
 image-by : {T E : Type 0} (fate : Fate) (at : ℕ) (bytes : List ℕ) (old new : Simulation) (result : Result T E)
-    → MayFollow fate old at bytes new → IsErr result ↔ FailsBy fate old new
+    → new ≡ after_change fate old at bytes → IsErr result ↔ FailsBy fate
     → OnOk result (new.told.image ≡ put_at old.told.image at bytes)
 image-by fate at bytes old new (Err e) follows fails = tt
 image-by Uncounted at bytes old new (Ok x) follows fails = let failed = fails.1 tt in (cc)
 image-by Unpowered at bytes old new (Ok x) follows fails = let failed = fails.1 tt in (cc)
 image-by (Reaches (Some tear)) at bytes old new (Ok x) follows fails = let failed = fails.1 tt in (cc)
-image-by (Reaches None) at bytes old new (Ok x) (inl follows) fails = ap (λ (flash : Simulation). flash.told.image) follows
-image-by (Reaches None) at bytes old new (Ok x) (inr follows) fails =
-    let rose : new.starved ≡ old.starved + 1 = ap (λ (flash : Simulation). flash.starved) follows in
-    let failed : false ≡ true = fails.1 (omega arith) in (cc)
+image-by (Reaches None) at bytes old new (Ok x) follows fails = ap (λ (flash : Simulation). flash.told.image) follows
 
 pub image-follows : {T E : Type 0} (at : ℕ) (bytes : List ℕ) (old new : Simulation) (result : Result T E)
-    → MayFollow (fate_of old) old at bytes new → IsErr result ↔ ChangeFails old new
+    → new ≡ after_change (fate_of old) old at bytes → IsErr result ↔ ChangeFails old
     → OnOk result (new.told.image ≡ put_at old.told.image at bytes)
 image-follows at bytes old new result follows fails = image-by (fate_of old) at bytes old new result follows fails
 
@@ -264,33 +243,25 @@ at_ok (Ok x) succeeded holds = holds
 at_ok (Err e) succeeded holds = (cc)
 
 -- a change fails where it can't be counted, without power, and where it is torn
-pub ChangeFails-last : (old new : Simulation) → steps_of old ≡ 2 ^ 64 - 1 → ChangeFails old new
-ChangeFails-last old new last = rw (fate_of-last old last) tt
+pub ChangeFails-last : (old : Simulation) → steps_of old ≡ 2 ^ 64 - 1 → ChangeFails old
+ChangeFails-last old last = rw (fate_of-last old last) tt
 
-pub ChangeFails-lost : (old new : Simulation) → (steps_of old ≡ 2 ^ 64 - 1 → ⊥) → old.power ≡ Lost → ChangeFails old new
-ChangeFails-lost old new more lost = rw (fate_of-lost old more lost) tt
+pub ChangeFails-lost : (old : Simulation) → (steps_of old ≡ 2 ^ 64 - 1 → ⊥) → old.power ≡ Lost → ChangeFails old
+ChangeFails-lost old more lost = rw (fate_of-lost old more lost) tt
 
-FailsBy-torn : (tear : Option Tear) (old new : Simulation) → is_some tear ≡ true → FailsBy (Reaches tear) old new
-FailsBy-torn (Some tear) old new torn = tt
-FailsBy-torn None old new torn = (cc)
+FailsBy-torn : (tear : Option Tear) → is_some tear ≡ true → FailsBy (Reaches tear)
+FailsBy-torn (Some tear) torn = tt
+FailsBy-torn None torn = (cc)
 
-FailsBy-starved : (tear : Option Tear) (old new : Simulation) → old.starved < new.starved → FailsBy (Reaches tear) old new
-FailsBy-starved (Some tear) old new rose = tt
-FailsBy-starved None old new rose = rose
+pub ChangeFails-torn : (old : Simulation) (tear : Option Tear) → fate_of old ≡ Reaches tear → is_some tear ≡ true → ChangeFails old
+ChangeFails-torn old tear fate torn = rw fate (FailsBy-torn tear torn)
 
--- one that reaches its range fails where it is torn or starved
-pub ChangeFails-reaches : (old new : Simulation) (tear : Option Tear) → fate_of old ≡ Reaches tear
-    → (is_some tear ≡ true) ⊎ (old.starved < new.starved) → ChangeFails old new
-ChangeFails-reaches old new tear fate (inl torn) = rw fate (FailsBy-torn tear old new torn)
-ChangeFails-reaches old new tear fate (inr rose) = rw fate (FailsBy-starved tear old new rose)
+FailsBy-whole : (tear : Option Tear) → is_some tear ≡ false → FailsBy (Reaches tear) → ⊥
+FailsBy-whole (Some tear) whole fails = (cc)
+FailsBy-whole None whole fails = fails
 
-FailsBy-whole : (tear : Option Tear) (old new : Simulation) → is_some tear ≡ false → new.starved ≡ old.starved → FailsBy (Reaches tear) old new → ⊥
-FailsBy-whole (Some tear) old new whole same fails = (cc)
-FailsBy-whole None old new whole same fails = let rose : old.starved < new.starved = fails in absurd (omega arith)
-
-pub ChangeFails-whole : (old new : Simulation) (tear : Option Tear) → fate_of old ≡ Reaches tear → is_some tear ≡ false
-    → new.starved ≡ old.starved → ChangeFails old new → ⊥
-ChangeFails-whole old new tear fate whole same fails = FailsBy-whole tear old new whole same (rw fate at fails)
+pub ChangeFails-whole : (old : Simulation) (tear : Option Tear) → fate_of old ≡ Reaches tear → is_some tear ≡ false → ChangeFails old → ⊥
+ChangeFails-whole old tear fate whole fails = FailsBy-whole tear whole (rw fate at fails)
 
 pub faults_after-torn : (tear : Option Tear) (faults : ℕ) → is_some tear ≡ true → faults_after tear faults ≡ next_count faults
 faults_after-torn (Some tear) faults torn = refl

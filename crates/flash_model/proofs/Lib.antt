@@ -1,5 +1,4 @@
 pub mod Telling
+pub mod Walks
 pub mod Changes
-pub mod Entries
-pub mod Erasures
 pub mod SpanLemmas

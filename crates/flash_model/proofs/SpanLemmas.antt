@@ -5,11 +5,10 @@ use Rattle.std.proofs.Math.Nat.{mul-le-mul_right}
 use Rattle.std.proofs.lemmas.Bool.{cases_eq, cases_lt}
 use Rattle.std.proofs.lemmas.List.{get_or-replicate, get_or-set_other, get_or-set_same, length-replicate}
 use Rattle.base_model.specs.Bytes.{part, put_at, SameOutside}
-use Rattle.base_model.proofs.BytesLemmas.{SameOutside-wider, SameOutside-put_at, part-put_at, part-part, length-part, is_put_at}
+use Rattle.base_model.proofs.BytesLemmas.{SameOutside-wider, SameOutside-put_at, part-put_at, is_put_at}
 use Rattle.base_model.specs.Flash.{IsErased}
 use Rattle.base_model.proofs.ErasedLemmas.{slots_apart, IsErased-before, IsErased-after, IsErased-append, IsErased-within}
 use Rattle.flash_model.specs.declared.spans.Span.{Span}
-use Rattle.flash_model.specs.Content.{IsErasedAround}
 use Rattle.flash_model.specs.Spans.{IsErasedBut, AreErasedBut}
 
 abbrev pub no_bytes : Span
@@ -96,7 +95,7 @@ erased_outside sector at old new within put =
     let all : length {A = ℕ} (replicate sector 0xFF) ≡ sector = length-replicate sector 0xFF in
     subst (λ (k : ℕ). SameOutside at k old new) all (rw put (SameOutside-put_at old at (replicate sector 0xFF) (omega (arith, all))))
 
-pub erased_now : (sector at : ℕ) (old new : List ℕ) → at + sector ≤ length old → new ≡ put_at old at (replicate sector 0xFF) → IsErased new at sector
+erased_now : (sector at : ℕ) (old new : List ℕ) → at + sector ≤ length old → new ≡ put_at old at (replicate sector 0xFF) → IsErased new at sector
 erased_now sector at old new within put =
     let all : length {A = ℕ} (replicate sector 0xFF) ≡ sector = length-replicate sector 0xFF in
     subst (λ (k : ℕ). part new at k ≡ replicate sector 0xFF) all (rw put (part-put_at old at (replicate sector 0xFF) (omega (arith, all))))
@@ -189,74 +188,4 @@ widened_all sector at len n old now had end image new same known s h =
             let later : n * sector ≤ s * sector = mul-le-mul_right sector (omega (arith, beyond)) in
             rw (had.behind s (omega (arith, beyond))) (stays_behind (get_or old s no_bytes) sector (s * sector) at len image new same (omega arith) (known s inside))
       ]
-    ]
-
--- the first bytes of a part
-first_bytes : (image : List ℕ) (place len n : ℕ) → n ≤ len → part (part image place len) 0 n ≡ part image place n
-first_bytes image place len n within =
-    let here : place + 0 ≡ place = omega arith in
-    part-part image place len 0 n (omega arith) ∙ ap (λ (k : ℕ). part image k n) here
-
--- a span within a sector that stands within an image
-pub around_span : (span : Span) (sector place : ℕ) (image : List ℕ) → place + sector ≤ length image → span.from ≤ span.to → IsErasedBut span sector image place
-    → IsErasedAround span.from (span.to - span.from) (part image place sector)
-around_span span sector place image within order but =
-    let inner = part image place sector in
-    let long : length inner ≡ sector = length-part image place sector within in
-    let end : span.to ≡ span.from + (span.to - span.from) = omega (arith, order) in
-    let behind : IsErased inner span.to (length inner - span.to) =
-    subst (λ (k : ℕ). IsErased inner span.to (k - span.to)) (sym long) (part-part image place sector span.to (sector - span.to) (omega (arith, but.to)) ∙ but.behind) in
-    record {
-      within = omega (arith, long, order, but.to);
-      before = first_bytes image place sector span.from but.from ∙ but.before;
-      after = subst (λ (k : ℕ). IsErased inner k (length inner - k)) end behind;
-    }
-
--- a sector without such bytes
-pub around_none : (span : Span) (sector place : ℕ) (image : List ℕ) → place + sector ≤ length image → span.to ≤ span.from → IsErasedBut span sector image place
-    → IsErasedAround 0 0 (part image place sector)
-around_none span sector place image within order but =
-    let inner = part image place sector in
-    let long : length inner ≡ sector = length-part image place sector within in
-    let rest = sector - span.from in
-    let behind : IsErased image (place + span.from) rest =
-    IsErased-within image (place + span.to) (sector - span.to) (place + span.from) rest but.behind (omega (arith, order)) (omega (arith, but.from, but.to)) in
-    let all : span.from + rest ≡ sector = omega (arith, but.from) in
-    let whole : IsErased image place sector = subst (λ (k : ℕ). IsErased image place k) all (IsErased-append image place span.from rest but.before behind) in
-    let same : sector ≡ length inner - (0 + 0) = omega (arith, long) in
-    record {
-      within = omega arith;
-      before = none_erased inner 0 0 refl;
-      after = subst (λ (k : ℕ). IsErased inner 0 k) same (first_bytes image place sector sector (omega arith) ∙ whole);
-    }
-
--- a sector of which nothing is known
-pub around_all : (sector place : ℕ) (image : List ℕ) → place + sector ≤ length image → IsErasedAround 0 (sector - 0) (part image place sector)
-around_all sector place image within =
-    let inner = part image place sector in
-    let long : length inner ≡ sector = length-part image place sector within in
-    record {
-      within = omega (arith, long);
-      before = none_erased inner 0 0 refl;
-      after = none_erased inner (0 + (sector - 0)) (length inner - (0 + (sector - 0))) (omega (arith, long));
-    }
-
--- a sector that is erased
-pub cleared : (spans : List Span) (clear : Span) (sector number : ℕ) (image : List ℕ) → IsErased image (number * sector) sector → clear.from ≡ sector → clear.to ≡ 0
-    → number < length spans → AreErasedBut spans sector image → AreErasedBut (set spans number clear) sector image
-cleared spans clear sector number image erased from to here known s h =
-    let listed : s < length spans = omega (arith, h, length-set spans number clear) in
-    elim (cases_eq s number) [
-      | inl at ↦
-          let now : get_or (set spans number clear) s no_bytes ≡ clear = ap (λ (k : ℕ). get_or (set spans number clear) k no_bytes) at ∙ get_or-set_same spans number clear no_bytes here in
-          rw (now, at)
-          (record {
-            from = omega (arith, from);
-            to = omega (arith, to);
-            before = subst (λ (k : ℕ). IsErased image (number * sector) k) (sym from) erased;
-            behind = IsErased-within image (number * sector) sector (number * sector + clear.to) (sector - clear.to) erased (omega arith) (omega (arith, to));
-          })
-      | inr apart ↦
-          let now : get_or (set spans number clear) s no_bytes ≡ get_or spans s no_bytes = get_or-set_other spans number s clear no_bytes apart in
-          rw now (known s listed)
     ]

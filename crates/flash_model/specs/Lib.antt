@@ -1,7 +1,6 @@
 pub mod Limits
 pub mod Layouts
-pub mod Journal
-pub mod Entries
+pub mod Pasts
 pub mod Content
 pub mod Spans
 pub mod Simulation

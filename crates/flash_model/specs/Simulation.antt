@@ -1,5 +1,5 @@
 -- A simulated flash as its callers see it, and what a change makes of it.
-use Rattle.std.specs.Prelude.{◌≡◌, ◌⊎◌, ℕ, ◌+◌, ◌-◌, ◌^◌, ◌<◌, Bool, true, false, ◌==◌, if◌then◌else◌, List, [], ◌∷◌, ◌++◌, length, replicate, Contains, find, Option, Some, None}
+use Rattle.std.specs.Prelude.{◌≡◌, ◌⊎◌, ℕ, ◌-◌, ◌^◌, Bool, true, false, ◌==◌, if◌then◌else◌, List, [], ◌∷◌, ◌++◌, length, replicate, Contains, find, Option, Some, None}
 use Rattle.std.specs.Option.{option_map}
 use Rattle.base_model.specs.Bytes.{put_at}
 use Rattle.base_model.specs.Flash.{Told, FlashState, next_count, unpowered_after}
@@ -10,7 +10,7 @@ use Rattle.flash_model.specs.declared.power.Power.{Power}
 use Rattle.flash_model.specs.declared.power.Power.TheVariants.{On, Until, Lost}
 
 -- what it tells, its sector size in bytes, its power, the changes and the reads that fail, each by its number, and its
--- counts of reads, of faults, of changes that found no memory, of calls that found no power, and of restarts
+-- counts of reads, of faults, of calls that found no power, and of restarts
 pub record Simulation : Type 0 where
   pub told : Told
   pub sector_size : ℕ
@@ -19,7 +19,6 @@ pub record Simulation : Type 0 where
   pub failing_reads : List ℕ
   pub reads : ℕ
   pub faults : ℕ
-  pub starved : ℕ
   pub unpowered : ℕ
   pub restarts : ℕ
 
@@ -109,15 +108,6 @@ after_unpowered flash = record flash {
   unpowered = next_count flash.unpowered;
 }
 
--- after a change that found no memory: one change of nothing and one fault more, and a cut at this step has come
-abbrev pub after_starved : Simulation → Simulation
-after_starved flash = record flash {
-  told = with_change flash.told 0 0 flash.told.image;
-  power = power_after flash.power (steps_of flash);
-  faults = next_count flash.faults;
-  starved = flash.starved + 1;
-}
-
 -- after a change that reached its range
 abbrev pub after_reaching : Option Tear → Simulation → ℕ → List ℕ → Simulation
 after_reaching tear flash at bytes = record flash {
@@ -127,20 +117,20 @@ after_reaching tear flash at bytes = record flash {
 }
 
 -- what a change of a range to these bytes leaves, by its fate
-abbrev pub MayFollow : Fate → Simulation → ℕ → List ℕ → Simulation → Type 0
-MayFollow Uncounted old at bytes new = new ≡ record old { faults = next_count old.faults; unpowered = unpowered_after (state_of old) }
-MayFollow Unpowered old at bytes new = new ≡ after_unpowered old
-MayFollow (Reaches tear) old at bytes new = (new ≡ after_reaching tear old at bytes) ⊎ (new ≡ after_starved old)
+abbrev pub after_change : Fate → Simulation → ℕ → List ℕ → Simulation
+after_change Uncounted flash at bytes = record flash { faults = next_count flash.faults; unpowered = unpowered_after (state_of flash) }
+after_change Unpowered flash at bytes = after_unpowered flash
+after_change (Reaches tear) flash at bytes = after_reaching tear flash at bytes
 
--- when a change fails, by its fate: unless it is whole and found memory
-abbrev pub FailsBy : Fate → Simulation → Simulation → Type 0
-FailsBy Uncounted old new = Unit {0}
-FailsBy Unpowered old new = Unit {0}
-FailsBy (Reaches (Some tear)) old new = Unit {0}
-FailsBy (Reaches None) old new = old.starved < new.starved
+-- when a change fails, by its fate: unless it is whole
+abbrev pub FailsBy : Fate → Type 0
+FailsBy Uncounted = Unit {0}
+FailsBy Unpowered = Unit {0}
+FailsBy (Reaches (Some tear)) = Unit {0}
+FailsBy (Reaches None) = ⊥
 
-abbrev pub ChangeFails : Simulation → Simulation → Type 0
-ChangeFails old new = FailsBy (fate_of old) old new
+abbrev pub ChangeFails : Simulation → Type 0
+ChangeFails flash = FailsBy (fate_of flash)
 
 -- when a read fails: it is in the list, or power is lost
 abbrev pub ReadFails : Simulation → Type 0

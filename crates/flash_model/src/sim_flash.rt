@@ -6,40 +6,37 @@ ghost use Rattle.base_model.specs.Flash.{FlashState, OnlyReads, AsksChange, IsEr
 
 use crate::content::Content;
 use crate::counts::next_count;
-use crate::journal::Journal;
+use crate::past::{Before, Past};
 use crate::power::Power;
-use crate::spans::{Span, all_bytes, around, clear, widen};
+use crate::spans::{Span, all_bytes};
 use crate::{Cut, Flash, FlashFailed, Tear};
 use std::alloc::Global;
 use std::marker::Model;
 
 /// A flash in memory that fails where it is told to.
 ///
-/// It keeps a journal of the bytes that its changes replaced, in memory that it asks for as it grows. A change that finds
-/// none fails, changes nothing, and counts. So does one that is asked for while power is lost. From a cut on every call
-/// fails until `restart`.
+/// A change that is asked for while power is lost fails, changes nothing, and counts. From a cut on every call fails until
+/// `restart`. No change asks for memory: the images before it exist only in proofs.
 #[derive(Drop)]
 pub struct SimFlash {
     sector: u32,
     image: Vec<u8>,
     // Of each sector, which bytes may be others than ones; of none where there was no memory for it.
     spans: Vec<Span>,
-    journal: Journal,
+    past: Past,
     power: Power,
     failing: Vec<(u64, Tear)>,
     failing_reads: Vec<u64>,
     steps: u64,
     reads: u64,
     faults: u64,
-    starved: u64,
     // How many calls for a change or a read found no power.
     unpowered: u64,
     restarts: u64,
 }
 
 impl Model for SimFlash {
-    ghost use Rattle.std.specs.Prelude.{◌≤◌, ◌*◌, length};
-    ghost use Rattle.flash_model.specs.Journal.{first_changes, AreBelow};
+    ghost use Rattle.std.specs.Prelude.{◌≡◌, ◌≤◌, ◌*◌, length};
     ghost use Rattle.flash_model.specs.Spans.{AreErasedBut};
     ghost use Rattle.flash_model.specs.Simulation.{Simulation};
 
@@ -47,7 +44,7 @@ impl Model for SimFlash {
 
     ghost view = { λ flash. record {
       told = record {
-        past = first_changes flash.journal flash.steps flash.image.items;
+        past = flash.past.changes;
         image = flash.image.items;
       };
       sector_size = flash.sector;
@@ -56,19 +53,18 @@ impl Model for SimFlash {
       failing_reads = flash.failing_reads.items;
       reads = flash.reads;
       faults = flash.faults;
-      starved = flash.starved;
       unpowered = flash.unpowered;
       restarts = flash.restarts;
     } };
 
-    ghost invariant = { λ flash. AreBelow flash.steps flash.journal × (flash.starved ≤ flash.steps)
+    ghost invariant = { λ flash. (length flash.past.changes ≡ flash.steps)
         × (length flash.spans.items * flash.sector ≤ length flash.image.items)
         × AreErasedBut flash.spans.items flash.sector flash.image.items };
 }
 
 impl SimFlash {
-    ghost use Rattle.flash_model.specs.Content.{bytes_of, MayReplace};
-    ghost use Rattle.flash_model.specs.Simulation.{first_power, steps_of, fate_of, MayFollow, ChangeFails};
+    ghost use Rattle.flash_model.specs.Content.{bytes_of, IsWhole};
+    ghost use Rattle.flash_model.specs.Simulation.{first_power, steps_of, fate_of, after_change, ChangeFails};
 
     /// A flash with these bytes, with sectors of `sector` bytes from the first one on. Bytes behind the last whole sector
     /// are never erased. Power is lost in the change of `cut`. The changes numbered in `failing`, from 0, fail and leave
@@ -90,7 +86,6 @@ impl SimFlash {
           failing_reads = failing_reads.items;
           reads = 0;
           faults = 0;
-          starved = 0;
           unpowered = 0;
           restarts = 0;
         } }
@@ -101,24 +96,16 @@ impl SimFlash {
             sector,
             image,
             spans,
-            journal: Journal::new(alloc),
+            past: Past::new(),
             power: Power::new(cut),
             failing,
             failing_reads,
             steps: 0,
             reads: 0,
             faults: 0,
-            starved: 0,
             unpowered: 0,
             restarts: 0,
         }
-    }
-
-    /// The number of changes that found no memory for their journal entry.
-    pub fn starved(&self) -> u64
-        ensures { result ≡ self.now.starved }
-    {
-        self.starved
     }
 
     /// The image.
@@ -131,9 +118,9 @@ impl SimFlash {
     // Makes one change of the range that the content fills from `at` on.
     fn change(&mut self, at: usize, content: Content) -> Result<(), FlashFailed>
         requires within { at + length (bytes_of content) ≤ length self.old.told.image }
-        requires may { MayReplace content (part self.old.told.image at (length (bytes_of content))) }
-        ensures after { MayFollow (fate_of self.old) self.old at (bytes_of content.entry) self.new }
-        ensures fails { IsErr result ↔ ChangeFails self.old self.new }
+        requires whole { IsWhole self.old.sector_size at content }
+        ensures after { self.new ≡ after_change (fate_of self.old) self.old at (bytes_of content.entry) }
+        ensures fails { IsErr result ↔ ChangeFails self.old }
         ensures counted { steps_of self.new ≡ next_count (steps_of self.old) }
         ensures faults { self.old.faults < 2 ^ 64 }
     {
@@ -143,6 +130,12 @@ impl SimFlash {
             return Err(FlashFailed);
         }
         if self.power.is_lost() {
+            let past = self.past.then(&Before {
+                image: &self.image,
+                at: 0,
+                len: 0,
+            });
+            self.past = past;
             self.steps += 1;
             self.faults = next_count(self.faults);
             self.unpowered = next_count(self.unpowered);
@@ -150,18 +143,21 @@ impl SimFlash {
         }
         let step = self.steps;
         let tear = self.power.tear_at(&self.failing, step);
-        let replaced = content.replaced(&self.image[at..at + content.len()]);
-        let kept = replaced.kept_at();
-        let noted = self.journal.note(step, at, replaced);
+        let past = self.past.then(&Before {
+            image: &self.image,
+            at,
+            len: content.len(),
+        });
+        content.leave(
+            tear,
+            &mut self.image,
+            &mut self.spans,
+            self.sector as usize,
+            at,
+        );
+        self.past = past;
         self.power = self.power.after(step);
         self.steps += 1;
-        if noted.is_err() {
-            self.starved += 1;
-            self.faults = next_count(self.faults);
-            return Err(FlashFailed);
-        }
-        content.leave(tear, &mut self.image, at, kept);
-        widen(&mut self.spans, self.sector as usize, at, content.len());
         if tear.is_some() {
             self.faults = next_count(self.faults);
             return Err(FlashFailed);
@@ -198,7 +194,7 @@ fn has_number(numbers: &[u64], number: u64) -> bool
 
 impl Flash for SimFlash {
     ghost use Rattle.std.specs.Prelude.{refl};
-    ghost use Rattle.flash_model.specs.Simulation.{state_of, fate_of, MayFollow, ReadFails, ChangeFails, after_read, power_restored};
+    ghost use Rattle.flash_model.specs.Simulation.{state_of, fate_of, after_change, ReadFails, ChangeFails, after_read, power_restored};
 
     ghost tells = { Unit {0} };
 
@@ -206,7 +202,7 @@ impl Flash for SimFlash {
 
     ghost read_fails = { ReadFails };
 
-    ghost change_fails = { ChangeFails };
+    ghost change_fails = { λ flash _. ChangeFails flash };
 
     fn size(&self) -> u64 {
         self.image.len() as u64
@@ -244,8 +240,8 @@ impl Flash for SimFlash {
         requires erased { IsErased self.old.told.image at (length bytes.now) }
         ensures bytes { OnOk result (self.new.told.image ≡ put_at self.old.told.image at bytes.now) }
         ensures change { AsksChange (Unit {0}) at (length bytes.now) (state_of self.old) (state_of self.new) result }
-        ensures fails { IsErr result ↔ ChangeFails self.old self.new }
-        ensures after { MayFollow (fate_of self.old) self.old at bytes.now self.new }
+        ensures fails { IsErr result ↔ ChangeFails self.old }
+        ensures after { self.new ≡ after_change (fate_of self.old) self.old at bytes.now }
     {
         self.change(at as usize, Content::Bytes(bytes))
     }
@@ -256,18 +252,12 @@ impl Flash for SimFlash {
             ≡ put_at self.old.told.image (sector * self.old.sector_size) (replicate self.old.sector_size 0xFF)) }
         ensures change { AsksChange (Unit {0})
             (sector * self.old.sector_size) self.old.sector_size (state_of self.old) (state_of self.new) result }
-        ensures fails { IsErr result ↔ ChangeFails self.old self.new }
-        ensures after { MayFollow (fate_of self.old) self.old (sector * self.old.sector_size)
-            (replicate self.old.sector_size 0xFF) self.new }
+        ensures fails { IsErr result ↔ ChangeFails self.old }
+        ensures after { self.new ≡ after_change (fate_of self.old) self.old (sector * self.old.sector_size)
+            (replicate self.old.sector_size 0xFF) }
     {
         let len = self.sector as usize;
-        let number = sector as usize;
-        let span = around(&self.spans, len, number);
-        let made = self.change(number * len, Content::Erased { len, span });
-        if made.is_ok() {
-            clear(&mut self.spans, len, number);
-        }
-        made
+        self.change(sector as usize * len, Content::Erased { len })
     }
 
     fn steps(&self) -> u64 {

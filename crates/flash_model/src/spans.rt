@@ -1,8 +1,6 @@
-//! Which bytes of each sector may be others than ones. So an erase looks at no more than these, and fills no more.
-ghost use Rattle.std.specs.Prelude.{◌≡◌, ℕ, ◌+◌, ◌-◌, ◌*◌, ◌%◌, ◌^◌, ◌<◌, ◌≤◌, List, length, replicate, IfOk};
-ghost use Rattle.base_model.specs.Bytes.{part, put_at, SameOutside};
-ghost use Rattle.base_model.specs.Flash.{IsErased};
-ghost use Rattle.flash_model.specs.Content.{IsErasedAround};
+//! Which bytes of each sector may be others than ones. So an erase fills no more than these.
+ghost use Rattle.std.specs.Prelude.{◌≡◌, ℕ, ◌+◌, ◌*◌, ◌%◌, ◌^◌, ◌<◌, ◌≤◌, List, length, replicate, IfOk};
+ghost use Rattle.base_model.specs.Bytes.{put_at, SameOutside};
 ghost use Rattle.flash_model.specs.Spans.{AreErasedBut};
 
 use crate::ranges::{fill_range, put_range};
@@ -75,42 +73,6 @@ pub fn erase(image: &mut [u8], spans: &mut [Span], sector: usize, at: usize)
         from: sector,
         to: 0,
     };
-}
-
-/// Which bytes of a sector may be others than ones: all, where nothing is known of it.
-pub fn around(spans: &[Span], sector: usize, number: usize) -> Span
-    ensures order { result.from ≤ result.to }
-    ensures around { (image : List ℕ) → AreErasedBut spans.now sector image
-        → number * sector + sector ≤ length image
-        → IsErasedAround result.from (result.to - result.from) (part image (number * sector) sector) }
-{
-    if number >= spans.len() {
-        return Span {
-            from: 0,
-            to: sector,
-        };
-    }
-    let span = spans[number];
-    if span.from < span.to {
-        span
-    } else {
-        Span { from: 0, to: 0 }
-    }
-}
-
-/// Notes that a sector was erased.
-pub fn clear(spans: &mut [Span], sector: usize, number: usize)
-    ensures sectors { length spans.new ≡ length spans.old }
-    ensures known { (image : List ℕ) → number * sector + sector ≤ length image
-        → IsErased image (number * sector) sector → AreErasedBut spans.old sector image
-        → AreErasedBut spans.new sector image }
-{
-    if number < spans.len() {
-        spans[number] = Span {
-            from: sector,
-            to: 0,
-        };
-    }
 }
 
 /// Widens the spans of the sectors that have bytes of a range.

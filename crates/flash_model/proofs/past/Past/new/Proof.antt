@@ -23,12 +23,12 @@ use denote.Triple.Entry.{alive}
 use denote.Triple.Spec.{Meets, triple_of}
 use denote.Triple.Table.{entered}
 use denote.Triple.Walked.{says, Stays, walk_of, ends_at, walk_Meets}
-use Rattle.erst_port.proofs.Walks.{bare, owns_bare}
-use Rattle.erst_port.specs.contracts.past.Past as Past
-use Rattle.erst_port.specs.contracts.past.Past.new as said
-use Rattle.erst_port.specs.contracts.past.Past.new.Key.{name as #self}
-use Rattle.erst_port.proofs.past.Past.new.Statement as stated
-use Rattle.erst_port.proofs.past.Past.new.Code as code
+use Rattle.flash_model.proofs.Walks.{bare, owns_bare}
+use Rattle.flash_model.specs.contracts.past.Past as Past
+use Rattle.flash_model.specs.contracts.past.Past.new as said
+use Rattle.flash_model.specs.contracts.past.Past.new.Key.{name as #self}
+use Rattle.flash_model.proofs.past.Past.new.Statement as stated
+use Rattle.flash_model.proofs.past.Past.new.Code as code
 
 abbrev body : Fn
 body = code.function

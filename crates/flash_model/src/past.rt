@@ -2,13 +2,13 @@
 ghost use Rattle.std.specs.Prelude.{◌≡◌, List, [], ◌∷◌, ◌++◌};
 ghost use Rattle.std.specs.Borrow.{ftrue};
 ghost use Rattle.base_model.specs.Flash.{Change};
-ghost use Rattle.erst_port.specs.Pasts.{changes_code};
+ghost use Rattle.flash_model.specs.Pasts.{changes_code};
 
 use std::marker::Model;
 
 /// The changes so far. It has no bytes, and its calls do nothing when they run.
 #[derive(Drop)]
-pub(crate) struct Past {
+pub struct Past {
     pub ghost changes: { List Change } by { changes_code },
 }
 
@@ -18,7 +18,7 @@ impl Model for Past {
 
 /// A change that is about to be made: the image before it, and its range.
 #[derive(Clone, Copy, Drop)]
-pub(crate) struct Before<'a> {
+pub struct Before<'a> {
     pub image: &'a [u8],
     pub at: usize,
     pub len: usize,
@@ -26,7 +26,7 @@ pub(crate) struct Before<'a> {
 
 impl Past {
     /// No change so far.
-    pub(crate) fn new() -> Past
+    pub fn new() -> Past
         ensures { result.changes ≡ [] }
     {
         Past {}
@@ -34,7 +34,7 @@ impl Past {
 
     /// These changes, and one more.
     #[inline(always)]
-    pub(crate) fn then(&self, _change: &Before<'_>) -> Past
+    pub fn then(&self, _change: &Before<'_>) -> Past
         ensures { result.changes ≡ self.now.changes ++
             (record { before = _change.now.image.now; at = _change.now.at; len = _change.now.len }) ∷ [] }
     {

@@ -26,13 +26,13 @@ use denote.Triple.Spec.{Meets, triple_of}
 use denote.Triple.Table.{entered}
 use denote.Triple.Walked.{says, Stays, stay_dropped, walk_of, ends_at, walk_Meets, Goes-dropped}
 use Rattle.base_model.specs.Flash.{Change}
-use Rattle.erst_port.proofs.Walks.{bare, owns_bare}
-use Rattle.erst_port.specs.contracts.past.Past as Past
-use Rattle.erst_port.specs.contracts.past.Before as Before
-use Rattle.erst_port.specs.contracts.past.Past.then as said
-use Rattle.erst_port.specs.contracts.past.Past.then.Key.{name as #self}
-use Rattle.erst_port.proofs.past.Past.then.Statement as stated
-use Rattle.erst_port.proofs.past.Past.then.Code as code
+use Rattle.flash_model.proofs.Walks.{bare, owns_bare}
+use Rattle.flash_model.specs.contracts.past.Past as Past
+use Rattle.flash_model.specs.contracts.past.Before as Before
+use Rattle.flash_model.specs.contracts.past.Past.then as said
+use Rattle.flash_model.specs.contracts.past.Past.then.Key.{name as #self}
+use Rattle.flash_model.proofs.past.Past.then.Statement as stated
+use Rattle.flash_model.proofs.past.Past.then.Code as code
 
 abbrev body : Fn
 body = code.function
