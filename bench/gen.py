@@ -5,7 +5,7 @@
 
 PROGRAM is the built program, by default crates/apei/out/apei; build it by ./apei sim </dev/null. For each it prints the median of RUNS
 runs (default 5) in milliseconds, less that of no commands, what that makes for a command, the flash changes, and the peak of the
-process's memory, which holds the simulated flash and a journal of all its changes.
+process's memory, which holds the simulated flash.
 """
 
 import os

@@ -6,7 +6,7 @@
 PROGRAM is the built program, by default crates/apei/out/apei; build it by ./apei sim </dev/null. The same script is played
 over 1,024 and over 32 slots of two sectors of 256 bytes: a command costs about the same. For each it prints the median of
 RUNS runs (default 7) in milliseconds, what that makes for a command, and the peak of the process's memory, which holds the
-simulated flash and a journal of all its changes. Over 32 slots no more than 31 identifiers have room, so both are measured
+simulated flash. Over 32 slots no more than 31 identifiers have room, so both are measured
 with 20 as well.
 """
 

@@ -9,8 +9,6 @@ the second form the runs of `sim` by FIRST to LAST are made by `rt try --fail-al
 for each N. A run in which a request was refused ends
 
 - with status 8, 'out of memory', before the first reply, or at a line that makes a table, whose reply is the first that is missing;
-- or, where the flash's journal asked, as a run in which the flash change made then fails: `refused hardware`, and the records before or after
-  that command; or with status 5 where a boot, a `reset` or a `power` made the change;
 - or, where the file of `play` was opened, with status 5 before the first reply;
 - or, at one request, as where none is refused: for the words of the command line std asks for room in advance, and does without it.
 
@@ -28,7 +26,7 @@ from pathlib import Path
 from typing import NamedTuple
 
 from apei import TOP
-from apei.flash import Fault, Geometry
+from apei.flash import Geometry
 from apei.frames import block
 from apei.harness import Program, Tally, given, scratch, side_by_side
 from apei.scripts import write
@@ -97,18 +95,13 @@ def takes_table(line: str) -> bool:
 
 
 class Job:
-    """A job with its words and input, and what it says where all is well and where a change of the flash fails."""
+    """A job with its words and input, and what it says where all is well."""
 
     def __init__(self, words: list[str], lines: list[str], run: Run) -> None:
         self.name, self.words, self.lines = words[0], words, lines
         self.whole = run(words, lines)
         # How many replies have come behind each line.
         self.told = [len(run(words, lines[:ended]).replies) for ended in range(len(lines) + 1)]
-        self.failing: list[Found] = []
-        if self.name == "sim":
-            steps = int(self.whole.replies[-1].rsplit("@", 1)[1])
-            faults = [Fault(step, tear) for step in range(steps + 1) for tear in range(4)]
-            self.failing = [run([*words, *fault.words], lines) for fault in faults]
 
     def next_line(self, replies: list[str]) -> str:
         """The line whose reply is the first that is missing."""
@@ -121,18 +114,9 @@ class Job:
             if not replies:
                 return "out of memory before the first reply"
             return "out of memory at a table" if takes_table(self.next_line(replies)) else None
-        if found in self.failing:
-            return "a flash change that fails"
-        if self.name == "gen" and status == 0 and made_of(replies) == made_of(self.whole.replies):
-            return "a flash change that fails" if replies != self.whole.replies else None
         if self.name == "play" and (status, said, replies) == (5, "apei: flash failed\n", []):
             return "a file that is not opened"
         return None
-
-
-def made_of(replies: list[str]) -> list[str]:
-    """What the line of `gen` says of the commands that were made."""
-    return [reply.split(" refused")[0] for reply in replies]
 
 
 class Preloaded:
