@@ -10,7 +10,8 @@ for each N. A run in which a request was refused ends
 
 - with status 8, 'out of memory', before the first reply, or at a line that makes a table, whose reply is the first that is missing;
 - or, where the file of `play` was opened, with status 5 before the first reply;
-- or, at one request, as where none is refused: for the words of the command line std asks for room in advance, and does without it.
+- or, at one request, as where none is refused: for the words of the command line std asks for room in advance, and does without it;
+- or so at one more of `sim` and `gen`, whose flash does without the list of what it knows of its sectors.
 
 How the runs ended comes before the last line.
 """
@@ -77,6 +78,8 @@ SCRIPT = [
 ]
 ITEMS = [line for name in ("check.script", "check-parts.script") for line in example(name)]
 IN_ADVANCE = "as where none is refused"
+# How many requests a job does without.
+WITHOUT = {"sim": 2, "gen": 2, "play": 1, "check": 1}
 
 
 class Found(NamedTuple):
@@ -162,7 +165,7 @@ class Ends(Tally):
     def take(self, job: Job, at: int, found: Found, may_do_without: bool) -> None:
         """A run whose so many-th request was refused."""
         end = job.end_of(found)
-        if found == job.whole and (may_do_without or not self.ends[job.name, IN_ADVANCE]):
+        if found == job.whole and (may_do_without or self.ends[job.name, IN_ADVANCE] < WITHOUT[job.name]):
             end = IN_ADVANCE
         self.ends[job.name, end or "wrong"] += 1
         same = " as where none is refused" if found == job.whole else ""
