@@ -42,7 +42,6 @@ fn plan_in(alloc: Global, matches: &ArgMatches<'_>) -> Result<Plan, WordsError>
     }
     Ok(Plan {
         job,
-        image: image(alloc, matches, job)?,
         sector: number_or(matches, Setting::Sector, 4096, u64::MAX)?,
         per_slot: number_or(matches, Setting::PerSlot, 2, u64::MAX)?,
         slots: number_or(matches, Setting::Slots, 32, u64::MAX)?,
@@ -54,5 +53,7 @@ fn plan_in(alloc: Global, matches: &ArgMatches<'_>) -> Result<Plan, WordsError>
         count: count(matches, job)?,
         seed: number_or(matches, Setting::Seed, 0, u64::MAX)?,
         show: show(matches)?,
+        // Last, since it alone takes memory, which each refusal behind it would give back.
+        image: image(alloc, matches, job)?,
     })
 }

@@ -11,8 +11,8 @@ use Rattle.erst_commands.specs.Causes.{GoesThrough}
 use Rattle.erst_commands.proofs.EnoughLemmas.{has_steps}
 use Rattle.erst_commands.proofs.ThroughLemmas.{clear_through, dummy_through, count_through, next_through, client_write_through, client_read_through}
 use Rattle.script_text.specs.ScriptGrammar.{Line, IsValid}
-use Rattle.script_text.specs.RunWords.{words_of_stop}
-use Rattle.script_text.proofs.RefusalLemmas.{told}
+use Rattle.apei_script.specs.RunWords.{words_of_stop}
+use Rattle.apei_script.proofs.RefusalLemmas.{told}
 use Rattle.apei_script.specs.Players.{asker_of}
 use Rattle.apei_script.specs.Words.{refused}
 use Rattle.apei_script.specs.Asked.{Asked, WritesRecord, ReadsRecord, ClearsRecord, CountsRecords, FindsNext, WritesDummy, RunsAction}

@@ -2,6 +2,7 @@ pub mod OneEvent
 pub mod TurnsAlike
 pub mod EventChanges
 pub mod LineLemmas
+pub mod RefusalLemmas
 pub mod WordLemmas
 pub mod OwnClientLemmas
 pub mod EnoughSteps

@@ -14,7 +14,7 @@ use Rattle.erst_commands.proofs.LimitLemmas.{reach-least}
 use Rattle.erst_commands.proofs.CauseLemmas.{count_cause, next_cause}
 use Rattle.erst_commands.proofs.CallCauses.{clear_cause, dummy_cause, client_write_cause, client_read_cause}
 use Rattle.script_text.specs.ScriptGrammar.{Line, IsValid}
-use Rattle.script_text.specs.ClientWords.{words_of_client}
+use Rattle.apei_script.specs.ClientWords.{words_of_client}
 use Rattle.apei_script.specs.Players.{asker_of}
 use Rattle.apei_script.specs.Words.{refused}
 use Rattle.apei_script.specs.Asked.{Asked, WritesRecord, ReadsRecord, ClearsRecord, CountsRecords, FindsNext, WritesDummy, RunsAction}

@@ -16,7 +16,7 @@ use Rattle.erst_shadow.proofs.ProgramLemmas.{own_count, own_next}
 use Rattle.erst_shadow.proofs.CauseLemmas.{shadow_clear_cause, shadow_dummy_cause, client_write_cause, client_read_cause}
 use Rattle.erst_shadow.proofs.EnoughLemmas.{client_write_through, clear_through, dummy_through, client_read_through}
 use Rattle.script_text.specs.ScriptGrammar.{Line, IsValid}
-use Rattle.script_text.specs.ClientWords.{words_of_client}
+use Rattle.apei_script.specs.ClientWords.{words_of_client}
 use Rattle.apei_script.specs.Players.{asker_of}
 use Rattle.apei_script.specs.Words.{refused}
 use Rattle.apei_script.specs.Asked.{Asked, WritesRecord, ReadsRecord, ClearsRecord, CountsRecords, FindsNext, WritesDummy, RunsAction}

@@ -3,8 +3,8 @@ use Rattle.std.proofs.Common.{◌≡◌, ℕ, List, drop, Option, Some, None, Re
 use Rattle.std.specs.Prelude.{codes}
 use Rattle.erst_client.specs.declared.errors.ClientError.{ClientError}
 use Rattle.erst_client.specs.declared.errors.ClientError.TheVariants.{Hardware}
-use Rattle.script_text.specs.ClientWords.{words_of_client}
-use Rattle.script_text.proofs.RefusalLemmas.{apart, told}
+use Rattle.apei_script.specs.ClientWords.{words_of_client}
+use Rattle.apei_script.proofs.RefusalLemmas.{apart, told}
 use Rattle.apei_script.specs.Words.{refused, words_of_write, words_of_read, words_of_clear, words_of_count, words_of_next, words_of_dummy}
 
 -- two refusals

@@ -17,7 +17,7 @@ use Rattle.erst_bridge.specs.MachinesInStep.{StandsInStep}
 use Rattle.erst_bridge.specs.Prefixes.{HasPrefix, bytes_in}
 use Rattle.erst_bridge.specs.declared.made.MadeTurn.{MadeTurn}
 use Rattle.erst_bridge.specs.Made.{turn_of, sides_in, AreCounted}
-use Rattle.script_text.specs.ClientWords.{words_of_client}
+use Rattle.apei_script.specs.ClientWords.{words_of_client}
 use Rattle.script_text.specs.ScriptGrammar.{Line, turns, bridge}
 use Rattle.apei_script.specs.Players.{PlayerState, budget_of}
 use Rattle.apei_script.specs.Words.{Reply, at_step, said_at, refused, word_of, words_of_block}

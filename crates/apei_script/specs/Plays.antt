@@ -24,7 +24,7 @@ use Rattle.erst_commands.specs.Attached.{own_client}
 use Rattle.erst_bridge.specs.declared.events.BridgeEvent.TheVariants.{Line as ByReader}
 use Rattle.erst_bridge.specs.Bridges.{BridgeState, Off}
 use Rattle.erst_bridge.specs.Turns.{OfBridge, Step}
-use Rattle.script_text.specs.RunWords.{words_of_stop}
+use Rattle.apei_script.specs.RunWords.{words_of_stop}
 use Rattle.script_text.specs.ScriptGrammar.{Line, IsValid, blank, comment, write, read, clear, count, next, dummy, action, table, own_table, shadow_table, error, turns, fatal, bert, heard, reset, power}
 use Rattle.apei_script.specs.declared.player.PlayStop.{PlayStop}
 use Rattle.apei_script.specs.declared.player.PlayStop.TheVariants.{SinkFault, FlashFault, Memory}

@@ -9,7 +9,7 @@ use Rattle.erst_client.specs.Attaching.{Attaches}
 use Rattle.erst_client.specs.Commands.{ClientState}
 use Rattle.erst_machine.specs.MachineState.{MachineState}
 use Rattle.erst_machine.specs.Allowed.{Allows}
-use Rattle.script_text.specs.ClientWords.{words_of_attach}
+use Rattle.apei_script.specs.ClientWords.{words_of_attach}
 use Rattle.script_text.specs.TableWords.{words_of_erst}
 use Rattle.apei_script.specs.Words.{refused, words_of_table}
 

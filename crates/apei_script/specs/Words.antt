@@ -10,9 +10,9 @@ use Rattle.ghes_ack.specs.declared.submission.SubmitError.{SubmitError}
 use Rattle.ghes_ack.specs.declared.submission.SubmitError.TheVariants.{Long as too_long, Malformed as malformed, Trailing as trailing}
 use Rattle.erst_machine.specs.declared.errors.FatalError.{FatalError}
 use Rattle.erst_machine.specs.declared.errors.FatalError.TheVariants.{Long, Malformed, Trailing, Region}
-use Rattle.script_text.specs.ClientWords.{words_of_client}
+use Rattle.apei_script.specs.ClientWords.{words_of_client}
 pub use Rattle.script_text.specs.ReplyWords.{refused, word_of, words_of_turns, words_of_heard}
-use Rattle.script_text.specs.RunWords.{words_of_fault, words_of_stop}
+use Rattle.apei_script.specs.RunWords.{words_of_fault, words_of_stop}
 use Rattle.script_text.specs.SubmitWords.{words_of_submit}
 use Rattle.erst_commands.specs.Writes.{id_of}
 

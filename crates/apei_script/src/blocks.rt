@@ -8,6 +8,7 @@ ghost use Rattle.apei_script.specs.Replies.{IsMade};
 ghost use Rattle.apei_script.specs.Happened.{Happened};
 ghost use Rattle.apei_script.specs.Sessions.{state_of, MakesReply};
 
+use crate::machine_refusal::MachineRefusal;
 use crate::refusals::{refuse, refuse_fatal};
 use crate::reply::put_number;
 use crate::session::Session;
@@ -95,6 +96,6 @@ fn make_bytes<F: Flash>(
             reply.begin(b"bytes ");
             reply.add_hex(out);
         }
-        Err(fault) => refuse(reply, &fault),
+        Err(fault) => refuse(reply, &MachineRefusal::Space(fault)),
     }
 }

@@ -17,6 +17,7 @@ ghost use Rattle.apei_script.specs.Sessions.{state_of, SameClients, MakesReply};
 ghost use Rattle.apei_script.specs.Played.{stage_of};
 
 use crate::events::hear_of_block;
+use crate::machine_refusal::MachineRefusal;
 use crate::reply::{end_line, put_number};
 use crate::session::Session;
 use apei_bytes::{Sink, SinkFault, write_all};
@@ -173,7 +174,7 @@ fn say_kept(error: &ClientError, step: u64, reply: &mut Reply)
     ensures short { length reply.new ≤ length reply.old + 160 }
 {
     let mut text = LineText::new();
-    error.add_to(&mut text);
+    MachineRefusal::Client(*error).add_to(&mut text);
     reply.add(b"kept ");
     reply.add_number(step);
     reply.add(b" ");

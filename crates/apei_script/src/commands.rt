@@ -7,6 +7,7 @@ ghost use Rattle.script_text.specs.ScriptGrammar.{Line, write, read, clear, coun
 ghost use Rattle.script_text.specs.ScriptText.{line_of};
 ghost use Rattle.apei_script.specs.{Players.asker_of, Words.words_of_write, Replies.IsMade, Asked.Answers, Plays.IsPlayable, Plays.asks_client, Sessions.state_of, Sessions.MakesReply};
 
+use crate::machine_refusal::MachineRefusal;
 use crate::refusals::{refuse, refuse_behind};
 use crate::reply::{put_number, put_record};
 use crate::session::Session;
@@ -99,7 +100,7 @@ fn write_record<F: Flash>(
     let len = decode(hex, bytes);
     match client.write(&bytes[..len], &mut Budget::new(steps), machine) {
         Ok(()) => wrote(&bytes[..len], reply),
-        Err(error) => refuse(reply, &error),
+        Err(error) => refuse(reply, &MachineRefusal::Client(error)),
     }
 }
 
@@ -131,7 +132,7 @@ fn read_record<F: Flash>(
     let out = &mut bytes[..READ_BUFFER];
     match client.read(id, out, &mut Budget::new(steps), machine) {
         Ok(len) => put_record(reply, &out[..len]),
-        Err(error) => refuse(reply, &error),
+        Err(error) => refuse(reply, &MachineRefusal::Client(error)),
     }
 }
 
@@ -148,7 +149,7 @@ fn clear_record<F: Flash>(
 {
     match client.clear(id, &mut Budget::new(steps), machine) {
         Ok(()) => put_number(reply, b"cleared ", id),
-        Err(error) => refuse(reply, &error),
+        Err(error) => refuse(reply, &MachineRefusal::Client(error)),
     }
 }
 
@@ -164,7 +165,7 @@ fn count_records<F: Flash>(
 {
     match client.count(&mut Budget::new(steps), machine) {
         Ok(count) => put_number(reply, b"count ", count),
-        Err(error) => refuse(reply, &error),
+        Err(error) => refuse(reply, &MachineRefusal::Client(error)),
     }
 }
 
@@ -176,7 +177,7 @@ fn show_next<F: Flash>(client: &mut Client, machine: &mut Machine<F>, steps: u64
     match client.next(&mut Budget::new(steps), machine) {
         Ok(Some(id)) => put_number(reply, b"next ", id),
         Ok(None) => reply.begin(b"next end"),
-        Err(error) => refuse(reply, &error),
+        Err(error) => refuse(reply, &MachineRefusal::Client(error)),
     }
 }
 
@@ -192,7 +193,7 @@ fn write_dummy<F: Flash>(
 {
     match client.dummy(&mut Budget::new(steps), machine) {
         Ok(()) => reply.begin(b"dummy ok"),
-        Err(error) => refuse(reply, &error),
+        Err(error) => refuse(reply, &MachineRefusal::Client(error)),
     }
 }
 
@@ -212,6 +213,6 @@ fn run_action<F: Flash>(
     let program = client.table().program(code as u8);
     match run(&program, value, &mut Budget::new(steps), machine) {
         Ok(result) => put_number(reply, b"result ", result),
-        Err(stop) => refuse_behind(reply, b"stopped ", &stop),
+        Err(stop) => refuse_behind(reply, b"stopped ", &MachineRefusal::Program(stop)),
     }
 }

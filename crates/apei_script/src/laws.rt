@@ -1,10 +1,15 @@
-// Laws on one line of a script: the functions do nothing, and their clauses are the laws.
-ghost use Rattle.std.specs.Prelude.{◌≡◌, ℕ, ◌+◌, ◌≤◌, List};
+// Laws on one line of a script and on words of replies: the functions do nothing, and their clauses are the laws.
+ghost use Rattle.std.specs.Prelude.{◌≡◌, ℕ, ◌+◌, ◌≤◌, List, ◌++◌, codes, decimal};
 ghost use Rattle.base_model.specs.Faults.{Rose};
 ghost use Rattle.apei_space.specs.Accesses.{Move, Trail};
+ghost use Rattle.erst_interp.specs.declared.stops.RunStop.{RunStop as AnyStop};
+ghost use Rattle.erst_client.specs.declared.errors.ClientError.{ClientError as AnyError};
+ghost use Rattle.erst_client.specs.declared.errors.ClientError.TheVariants.{Hardware, Stopped, Late};
 ghost use Rattle.erst_machine.specs.MachineState.{MachineState, IsMachine};
 ghost use Rattle.erst_machine.specs.Events.{Event, Happens};
 ghost use Rattle.script_text.specs.ScriptGrammar.{Line, IsValid};
+ghost use Rattle.apei_script.specs.ClientWords.{words_of_client};
+ghost use Rattle.apei_script.specs.RunWords.{words_of_stop};
 ghost use Rattle.apei_script.specs.Players.{PlayerState};
 ghost use Rattle.apei_script.specs.Changes.{changes_along};
 ghost use Rattle.apei_script.specs.Plays.{Played, Plays, FailsRestart, HasHappened, LinePlayed};
@@ -48,4 +53,13 @@ pub fn a_line_keeps_a_machine<F: Flash>()
         → played.left.own ≡ old.own }
     ensures steps { (counts : List ℕ) (old : PlayerState) (played : Played) → Plays F.tells counts old played
         → played.left.steps ≡ old.steps }
+{}
+
+/// The words of a client's refusal tell it: that the flash failed, that a program was stopped, or that the device was busy for too long.
+pub fn words_tell_the_refusal()
+    ensures hardware { (error : AnyError) → words_of_client error ≡ codes "hardware" → error ≡ Hardware }
+    ensures stopped { (stop : AnyStop) (error : AnyError)
+        → words_of_client error ≡ codes "stopped " ++ words_of_stop stop → (why : AnyStop) × (error ≡ Stopped why) }
+    ensures late { (time : ℕ) (error : AnyError) → words_of_client error ≡ codes "late " ++ decimal time
+        → (waited : ℕ) × (error ≡ Late waited) }
 {}

@@ -6,6 +6,7 @@ ghost use Rattle.script_text.specs.ScriptGrammar.{table, own_table, shadow_table
 ghost use Rattle.apei_script.specs.Plays.{Stops};
 ghost use Rattle.apei_script.specs.Sessions.{state_of, MakesReply};
 
+use crate::machine_refusal::MachineRefusal;
 use crate::player::PlayStop;
 use crate::refusals::{refuse, refuse_behind};
 use crate::reply::put_number;
@@ -46,7 +47,7 @@ impl<F: Flash> Session<F> {
                 self.other = Some(client);
                 put_number(&mut self.buffers.reply, b"table ", entries);
             }
-            Err(error) => refuse(&mut self.buffers.reply, &error),
+            Err(error) => refuse(&mut self.buffers.reply, &MachineRefusal::Attach(error)),
         }
         Ok(())
     }

@@ -21,7 +21,7 @@ use Rattle.erst_machine.specs.Events.{Event, Warms, Powers, Happens}
 use Rattle.erst_bridge.specs.Bridges.{BridgeState, Off, Awaits}
 use Rattle.erst_bridge.specs.Turns.{Step, AreTurns}
 use Rattle.erst_bridge.specs.Made.{sides_in}
-use Rattle.script_text.specs.ClientWords.{words_of_attach}
+use Rattle.apei_script.specs.ClientWords.{words_of_attach}
 use Rattle.script_text.specs.TableWords.{words_of_erst}
 use Rattle.script_text.specs.ScriptGrammar.{Line, blank, write, read, clear, count, next, dummy, action, table, own_table, shadow_table, turns, bert, heard, reset, power, bridge}
 use Rattle.erst_shadow.specs.ShadowTables.{shadow_count}

@@ -3,7 +3,6 @@ pub mod FaultLemmas
 pub mod HexText
 pub mod OneCheckLine
 pub mod OneLine
-pub mod RefusalLemmas
 pub mod ScriptLemmas
 pub mod ShownLemmas
 pub mod TurnLemmas

@@ -1,10 +1,8 @@
 pub mod CheckGrammar
 pub mod CheckText
 pub mod CheckWords
-pub mod ClientWords
 pub mod FrameWords
 pub mod ReplyWords
-pub mod RunWords
 pub mod ScriptGrammar
 pub mod ScriptText
 pub mod Shown

@@ -1,11 +1,6 @@
 // Laws on lines: the functions do nothing, and their clauses are the laws.
-ghost use Rattle.std.specs.Prelude.{◌≡◌, ℕ, List, ◌++◌, codes, decimal};
+ghost use Rattle.std.specs.Prelude.{◌≡◌, ℕ, List};
 ghost use Rattle.script_lines.specs.Columns.{BreaksAt};
-ghost use Rattle.erst_interp.specs.declared.stops.RunStop.{RunStop as AnyStop};
-ghost use Rattle.erst_client.specs.declared.errors.ClientError.{ClientError as AnyError};
-ghost use Rattle.erst_client.specs.declared.errors.ClientError.TheVariants.{Hardware, Stopped, Late};
-ghost use Rattle.script_text.specs.ClientWords.{words_of_client};
-ghost use Rattle.script_text.specs.RunWords.{words_of_stop};
 ghost use Rattle.script_text.specs.ScriptText.{IsText, Means, line_of};
 ghost use Rattle.script_text.specs.declared.script_line.ScriptLine.{ScriptLine as AnyLine};
 ghost use Rattle.script_text.specs.CheckGrammar.{CheckedLine, IsCheckLine, IsValidCheck, check_text_of};
@@ -34,13 +29,4 @@ pub fn one_check_line()
 /// A text has at most one column as a check line.
 pub fn one_check_column()
     ensures { (text : List ℕ) (a b : ℕ) → BreaksAt IsCheckLine text a → BreaksAt IsCheckLine text b → a ≡ b }
-{}
-
-/// The words of a client's refusal tell it: that the flash failed, that a program was stopped, or that the device was busy for too long.
-pub fn words_tell_the_refusal()
-    ensures hardware { (error : AnyError) → words_of_client error ≡ codes "hardware" → error ≡ Hardware }
-    ensures stopped { (stop : AnyStop) (error : AnyError)
-        → words_of_client error ≡ codes "stopped " ++ words_of_stop stop → (why : AnyStop) × (error ≡ Stopped why) }
-    ensures late { (time : ℕ) (error : AnyError) → words_of_client error ≡ codes "late " ++ decimal time
-        → (waited : ℕ) × (error ≡ Late waited) }
 {}

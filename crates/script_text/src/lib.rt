@@ -12,10 +12,7 @@ mod turns;
 
 pub use check_line::CheckLine;
 pub use digits::{decode, decode_line};
-pub use laws::{
-    a_text_means_its_line, one_check_column, one_check_line, one_column, one_line,
-    words_tell_the_refusal,
-};
+pub use laws::{a_text_means_its_line, one_check_column, one_check_line, one_column, one_line};
 pub use refusal::Refusal;
 pub use reply::{Reply, word_of};
 pub use script_line::{BadLine, ScriptLine};

@@ -1,5 +1,5 @@
-use Rattle.script_text.proofs.RefusalLemmas.{told}
-use Rattle.script_text.proofs.laws.words_tell_the_refusal.Goals as goal
+use Rattle.apei_script.proofs.RefusalLemmas.{told}
+use Rattle.apei_script.proofs.laws.words_tell_the_refusal.Goals as goal
 
 pub returns : goal.returns
 returns c = record {

@@ -5,8 +5,8 @@ use Rattle.std.proofs.lemmas.Bool.Decides.{nat_tests}
 use Rattle.erst_interp.specs.declared.stops.RunStop.{RunStop}
 use Rattle.erst_client.specs.declared.errors.ClientError.{ClientError}
 use Rattle.erst_client.specs.declared.errors.ClientError.TheVariants.{Hardware, Stopped, Late}
-use Rattle.script_text.specs.ClientWords.{words_of_client}
-use Rattle.script_text.specs.RunWords.{words_of_stop}
+use Rattle.apei_script.specs.ClientWords.{words_of_client}
+use Rattle.apei_script.specs.RunWords.{words_of_stop}
 
 -- the first three codes of a text, as one number
 abbrev pub first : List ℕ → ℕ

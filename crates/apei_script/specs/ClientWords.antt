@@ -5,7 +5,7 @@ use Rattle.erst_client.specs.declared.errors.AttachError.TheVariants.{Stopped as
 use Rattle.erst_client.specs.declared.errors.ClientError.{ClientError}
 use Rattle.erst_client.specs.declared.errors.ClientError.TheVariants.{NoSpace, Hardware, Failed, Empty, NotFound, Frame, TooLong, SmallBuffer, BadLength, Status, Stopped, Trailing, Range, Late}
 use Rattle.script_text.specs.FrameWords.{words_of_frame}
-use Rattle.script_text.specs.RunWords.{words_of_fault, words_of_stop}
+use Rattle.apei_script.specs.RunWords.{words_of_fault, words_of_stop}
 
 abbrev pub words_of_attach : AttachError → List ℕ
 words_of_attach (attach_stopped why) = codes "stopped " ++ words_of_stop why
