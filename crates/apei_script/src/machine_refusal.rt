@@ -11,7 +11,7 @@ use script_lines::LineText;
 use script_text::Refusal;
 
 /// Why a machine, or a client of it, does not do what a line asks.
-#[derive(Clone, Copy, Debug, PartialEq, Eq)]
+#[derive(Clone, Copy)]
 pub enum MachineRefusal {
     /// The client refuses a command.
     Client(ClientError),

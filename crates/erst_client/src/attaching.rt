@@ -14,7 +14,7 @@ use erst_interp::{Budget, RunStop};
 const NON_VOLATILE: u64 = 2;
 
 /// The error log address range, and how long an operation takes at most and nominally.
-#[derive(Clone, Copy, Debug, PartialEq, Eq)]
+#[derive(Clone, Copy)]
 pub struct FoundRange {
     pub address: u64,
     pub len: u64,

@@ -10,7 +10,7 @@ use erst_entries::{Action, ErstTable, Program};
 use erst_interp::{Budget, RunStop, run};
 
 /// An action, and the value that its program is given.
-#[derive(Clone, Copy, Debug, PartialEq, Eq)]
+#[derive(Clone, Copy)]
 pub struct Request {
     pub action: Action,
     pub given: u64,

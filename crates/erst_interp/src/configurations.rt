@@ -6,7 +6,7 @@ use erst_entries::Entry;
 
 /// The place in the program, the last result, the two variables, the bases of MOVE_DATA, and whether
 /// STALL_WHILE_TRUE is to wait before it compares.
-#[derive(Clone, Copy, Debug, PartialEq, Eq)]
+#[derive(Clone, Copy)]
 pub struct Configuration {
     pub place: usize,
     pub result: Option<u64>,
@@ -62,7 +62,7 @@ impl Configuration {
 }
 
 /// An instruction entry, in the configuration in which a run comes to it.
-#[derive(Clone, Copy, Debug, PartialEq, Eq)]
+#[derive(Clone, Copy)]
 pub struct Task {
     pub entry: Entry,
     /// The value that the run was given.

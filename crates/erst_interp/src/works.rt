@@ -7,7 +7,7 @@ use crate::configurations::{Configuration, Task};
 use erst_entries::Instruction;
 
 /// What an instruction does.
-#[derive(Clone, Copy, Debug, PartialEq, Eq)]
+#[derive(Clone, Copy)]
 pub enum Work {
     /// Goes on so: NOOP, ADD and SUBTRACT.
     GoOn(Configuration),
@@ -20,7 +20,7 @@ pub enum Work {
 }
 
 /// What an instruction does with its register.
-#[derive(Clone, Copy, Debug, PartialEq, Eq)]
+#[derive(Clone, Copy)]
 pub enum Access {
     /// Reads its field first, and takes or changes it.
     Field(FieldUse),
@@ -33,7 +33,7 @@ pub enum Access {
 }
 
 /// What an instruction does with its field.
-#[derive(Clone, Copy, Debug, PartialEq, Eq)]
+#[derive(Clone, Copy)]
 pub enum FieldUse {
     /// Goes on by it.
     Take(Taking),
@@ -43,7 +43,7 @@ pub enum FieldUse {
 
 /// Where a field goes: READ_REGISTER, READ_REGISTER_VALUE, LOAD_VAR1, LOAD_VAR2, SKIP_NEXT_INSTRUCTION_IF_TRUE,
 /// SET_SRC_ADDRESS_BASE and SET_DST_ADDRESS_BASE.
-#[derive(Clone, Copy, Debug, PartialEq, Eq)]
+#[derive(Clone, Copy)]
 pub enum Taking {
     Result,
     Comparison,
@@ -55,7 +55,7 @@ pub enum Taking {
 }
 
 /// What becomes of a field: ADD_VALUE and SUBTRACT_VALUE.
-#[derive(Clone, Copy, Debug, PartialEq, Eq)]
+#[derive(Clone, Copy)]
 pub enum Changing {
     AddValue,
     SubtractValue,

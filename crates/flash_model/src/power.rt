@@ -7,7 +7,7 @@ use crate::tear::listed_tear;
 use crate::{Cut, Tear};
 
 /// The power of a simulated flash: on for good, on until a cut, or lost.
-#[derive(Clone, Copy, Debug)]
+#[derive(Clone, Copy)]
 pub enum Power {
     On,
     Until(Cut),

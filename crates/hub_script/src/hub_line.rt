@@ -10,7 +10,7 @@ use crate::parts::{number_and_pairs, turns};
 use script_lines::{Keyword, keyword_of, number, pairs, two_numbers};
 
 /// A line of a script of several error sources. Hexadecimal digits and turns are parts of its text as they stand.
-#[derive(Clone, Copy, Debug, PartialEq, Eq)]
+#[derive(Clone, Copy, Debug)]
 pub enum HubLine<'a> {
     /// An empty line, or one that begins with `#`.
     Blank,

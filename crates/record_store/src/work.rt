@@ -5,7 +5,7 @@ use crate::{Draft, Stage};
 use record_slots::{RecordId, SlotOf};
 
 /// What is pending.
-#[derive(Clone, Copy, Debug, PartialEq, Eq)]
+#[derive(Clone, Copy)]
 pub enum Begun {
     Nothing,
     /// The write of a record, up to its gate, and the place of the record that it replaces.

@@ -10,7 +10,7 @@ use crate::script_line::BadLine;
 use script_lines::{Keyword, keyword_of, pairs};
 
 /// A line that gives a table, a record or a block to be checked, in hexadecimal digits that are a part of its text.
-#[derive(Clone, Copy, Debug, PartialEq, Eq)]
+#[derive(Clone, Copy, Debug)]
 pub enum CheckLine<'a> {
     /// An empty line, or one that begins with `#`.
     Blank,

@@ -10,7 +10,7 @@ use crate::turns::turns;
 use script_lines::{Keyword, common_len, end, keyword_of, number, pairs, two_numbers};
 
 /// A line of a script. Hexadecimal digits and letters are parts of its text as they stand.
-#[derive(Clone, Copy, Debug, PartialEq, Eq)]
+#[derive(Clone, Copy, Debug)]
 pub enum ScriptLine<'a> {
     /// An empty line, or one that begins with `#`.
     Blank,

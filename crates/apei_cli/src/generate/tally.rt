@@ -6,7 +6,7 @@ ghost use Rattle.apei_cli.specs.Generated.{tally_of};
 use crate::generate::command::Command;
 
 /// How many commands of each kind were played, and how many of them all were refused.
-#[derive(Clone, Copy, Debug, PartialEq, Eq)]
+#[derive(Clone, Copy)]
 pub struct Tally {
     pub writes: u64,
     pub clears: u64,

@@ -8,7 +8,7 @@ use apei_tables::{Place, Width};
 use ghes_ack::{BlockWindow, HasWindow, MayWrite, MustLook, begin};
 
 /// The 8 bytes at `status` hold the address of the block's window.
-#[derive(Clone, Copy, Debug, PartialEq, Eq)]
+#[derive(Clone, Copy)]
 pub struct PlainMap {
     pub status: u64,
     pub window: BlockWindow,
