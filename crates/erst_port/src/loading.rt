@@ -22,7 +22,7 @@ use flash_model::Geometry;
 use std::alloc::Global;
 
 /// What saved bytes hold before the log range.
-#[derive(Clone, Copy, Debug)]
+#[derive(Clone, Copy)]
 pub struct SavedState {
     pub addresses: Addresses,
     pub registers: Registers,

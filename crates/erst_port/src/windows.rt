@@ -24,7 +24,7 @@ pub struct Addresses {
 }
 
 /// Where an access stands.
-#[derive(Clone, Copy, Debug, PartialEq, Eq)]
+#[derive(Clone, Copy)]
 pub enum Location {
     /// ACTION.
     Action,

@@ -10,7 +10,7 @@ use std::alloc::AllocError;
 use std::str::from_utf8;
 
 /// What a section is about, by its type.
-#[derive(Clone, Copy, Debug, PartialEq, Eq)]
+#[derive(Clone, Copy)]
 pub(crate) enum Subject {
     Memory,
     ProcessorGeneric,
