@@ -18,7 +18,7 @@ VTD = "71761d37-32b2-45cd-a7d0-b0fedd93e8cf"
 IOMMU = "036f84e1-7f37-428c-a79e-575fdfaa84ec"
 CCIX = "91335ef6-ebfb-4478-a6a6-88b728cf75d7"
 MACHINE_CHECK = "fe08ffbe-95e4-4be7-bc73-4096044a38fc"
-DMESG = "c197e04e-d545-4a70-9c17-a554941912eb"
+DMESG = "c197e04e-d545-4a70-9c17-a5549419eb12"
 # The types of the checks of an IA32 or x64 processor's section.
 CHECKS = [
     "a55701f5-e3ef-43de-ac72-249b573fad2c",

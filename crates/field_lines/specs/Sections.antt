@@ -28,7 +28,7 @@ section_kinds =
     ∷ (codes "036f84e1-7f37-428c-a79e-575fdfaa84ec", Iommu)
     ∷ (codes "91335ef6-ebfb-4478-a6a6-88b728cf75d7", Ccix)
     ∷ (codes "fe08ffbe-95e4-4be7-bc73-4096044a38fc", LinuxMachineCheck)
-    ∷ (codes "c197e04e-d545-4a70-9c17-a554941912eb", LinuxDmesg)
+    ∷ (codes "c197e04e-d545-4a70-9c17-a5549419eb12", LinuxDmesg)
     ∷ []
 
 abbrev pub kind_in : List (List ℕ × SectionKind) → List ℕ → Option SectionKind

@@ -115,7 +115,7 @@ const SECTIONS: [Named; 15] = [
         kind: SectionKind::LinuxMachineCheck,
     },
     Named {
-        guid: b"c197e04e-d545-4a70-9c17-a554941912eb",
+        guid: b"c197e04e-d545-4a70-9c17-a5549419eb12",
         kind: SectionKind::LinuxDmesg,
     },
 ];

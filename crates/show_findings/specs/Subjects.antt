@@ -10,7 +10,7 @@ use Rattle.show_findings.specs.Kinds.{first_of}
 abbrev pub other_title : List ℕ → Option (List ℕ)
 other_title guid =
     if bytes_eq guid (codes "fe08ffbe-95e4-4be7-bc73-4096044a38fc") then Some (codes "Linux machine check")
-    else if bytes_eq guid (codes "c197e04e-d545-4a70-9c17-a554941912eb") then Some (codes "Linux kernel log")
+    else if bytes_eq guid (codes "c197e04e-d545-4a70-9c17-a5549419eb12") then Some (codes "Linux kernel log")
     else if bytes_eq guid (codes "4f118707-04dd-4055-b5dd-956d34ddfac6") then Some (codes "Linux kernel log, packed")
     else if bytes_eq guid (codes "91335ef6-ebfb-4478-a6a6-88b728cf75d7") then Some (codes "CCIX PER Log")
     else None

@@ -28,7 +28,7 @@ pub(crate) enum Subject {
 // The types of the sections that Linux stores by itself: a machine check, and a kernel's log, as it is and packed.
 const MACHINE_CHECK: &[u8; 36] = b"fe08ffbe-95e4-4be7-bc73-4096044a38fc";
 
-const KERNEL_LOG: &[u8; 36] = b"c197e04e-d545-4a70-9c17-a554941912eb";
+const KERNEL_LOG: &[u8; 36] = b"c197e04e-d545-4a70-9c17-a5549419eb12";
 
 const PACKED_LOG: &[u8; 36] = b"4f118707-04dd-4055-b5dd-956d34ddfac6";
 

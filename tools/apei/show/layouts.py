@@ -742,5 +742,5 @@ NAMES = {
     "036f84e1-7f37-428c-a79e-575fdfaa84ec": ("IOMMU", IOMMU, 144),
     "91335ef6-ebfb-4478-a6a6-88b728cf75d7": ("CCIX PER Log", CCIX, 36),
     "fe08ffbe-95e4-4be7-bc73-4096044a38fc": ("Linux machine check", LINUX_MACHINE_CHECK, 128),
-    "c197e04e-d545-4a70-9c17-a554941912eb": ("Linux dmesg", LINUX_DMESG, 40),
+    "c197e04e-d545-4a70-9c17-a5549419eb12": ("Linux dmesg", LINUX_DMESG, 40),
 }
