@@ -2,6 +2,7 @@ pub mod Dues
 pub mod Contents
 pub mod Logs
 pub mod States
+pub mod Failures
 pub mod Places
 pub mod PortState
 pub mod Changes

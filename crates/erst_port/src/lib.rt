@@ -9,6 +9,7 @@ mod content;
 mod due;
 mod entries;
 mod errors;
+mod facts;
 mod loading;
 mod log;
 mod memory;
