@@ -107,7 +107,7 @@ by_write (Bytes start) old new width value answer h = (by_port old new _ h.1 ref
 by_write Nowhere old new width value answer h = (by_port old new _ h.1 refl refl, ap (λ (p : PortState). p.made) h.1)
 
 -- bytes of the log range
-stored_store : (location : Location) (old : PortState) (bytes : List ℕ) → (bytes_stored location old bytes).1.device.store ≡ old.device.store
+pub stored_store : (location : Location) (old : PortState) (bytes : List ℕ) → (bytes_stored location old bytes).1.device.store ≡ old.device.store
 stored_store Action old bytes = refl
 stored_store Value old bytes = refl
 stored_store LowHalf old bytes = refl

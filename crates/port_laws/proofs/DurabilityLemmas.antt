@@ -62,7 +62,7 @@ pub loss_shows : (origin : ℕ) (geometry : Geometry) (first : Embedded) (calls 
 loss_shows origin geometry first calls last left begins is lost =
     lost_shows origin geometry first calls last (drop origin left) begins is (loss_is origin geometry first calls last left begins is lost)
 
-found_are : (origin : ℕ) (geometry : Geometry) (next : Embedded) → Begins origin geometry next → records_of next.port ≡ records_in (layout_of geometry) (drop origin next.medium)
+pub found_are : (origin : ℕ) (geometry : Geometry) (next : Embedded) → Begins origin geometry next → records_of next.port ≡ records_in (layout_of geometry) (drop origin next.medium)
 found_are origin geometry next begins =
     ap (λ (l : Layout). records_in l (told_of next.port).image) begins.layout
     ∙ Leaves-exit (first_state (drop origin next.medium) geometry.sector).told (told_of next.port) _ begins.kept

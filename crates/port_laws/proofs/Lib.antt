@@ -5,6 +5,9 @@ pub mod StepLemmas
 pub mod TrailLemmas
 pub mod PlayLemmas
 pub mod DurabilityLemmas
+pub mod FaultLemmas
+pub mod LifeLemmas
+pub mod OneGeometry
 pub mod CarryLemmas
 pub mod SequenceLemmas
 pub mod PlaceLemmas

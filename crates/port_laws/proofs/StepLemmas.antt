@@ -6,7 +6,7 @@ use Rattle.std.proofs.lemmas.Bool.{cases_lt}
 use Rattle.std.proofs.lemmas.Option.{slice_get_within}
 use Rattle.base_model.specs.Bytes.{SameOutside, put_at}
 use Rattle.base_model.proofs.BytesLemmas.{SameOutside-put_at, SameOutside-refl, length-put_at}
-use Rattle.base_model.specs.Flash.{Change, Told, CrashImage, IsLater, image_at}
+use Rattle.base_model.specs.Flash.{Told, CrashImage, IsLater, image_at}
 use Rattle.base_model.proofs.CrashLemmas.{image_at-later, image_at-now, past_grows}
 use Rattle.erst_port.specs.declared.due.Kind.{Kind}
 use Rattle.erst_port.proofs.Dues.{follows, tears, change_of_due, image_before}

@@ -3,6 +3,7 @@ pub mod Beginnings
 pub mod Losses
 pub mod Commands
 pub mod Prefixes
+pub mod Lives
 pub mod PortSpaces
 pub mod Machines
 pub mod PortClients

@@ -4,6 +4,7 @@
 mod commands;
 mod durability;
 mod equivalence;
+mod lives;
 
 pub use commands::{
     a_clear_is_the_maps, a_client_reads_as_the_map, a_client_writes_as_the_map,
@@ -19,4 +20,8 @@ pub use durability::{
 pub use equivalence::{
     a_loaded_port_is_equivalent, a_saved_port_is_taken, equivalent_ports_read_alike,
     equivalent_ports_reset_alike, equivalent_ports_write_alike,
+};
+pub use lives::{
+    a_life_keeps_what_was_told, a_loading_begins, a_medium_starts_a_run,
+    no_fault_before_the_last_count,
 };
