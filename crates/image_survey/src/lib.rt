@@ -26,6 +26,7 @@ pub use format::{Content, FormatChange, format_change};
 pub use header::{FirstSector, MediumError, VERSION, first_sector, geometry_of, medium_size};
 pub use heads::{Guess, best_guess, count_heads};
 pub use kinds::SlotKind;
+pub use medium_laws::{a_cut_format_leaves_no_medium, a_format_makes_a_medium};
 pub use reading::record_at;
 pub use record_slots::{Look, ScanError};
 pub use survey::{SlotView, survey_slots};
