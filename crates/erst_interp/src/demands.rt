@@ -38,10 +38,7 @@ impl Demand {
         ensures { S.allows (S.state space.old) (call_of self result) (S.state space.new) }
     {
         match self {
-            Demand::Load { place, width } => match space.read(place, width) {
-                Ok(number) => Ok(number),
-                Err(fault) => Err(fault),
-            },
+            Demand::Load { place, width } => space.read(place, width),
             Demand::Store {
                 place,
                 width,

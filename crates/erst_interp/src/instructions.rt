@@ -101,14 +101,14 @@ fn storing(register: Register, value: u64, task: &Task) -> Awaited
 #[inline(always)]
 pub fn resumed(
     task: &Task,
-    awaited: Awaited,
+    awaited: &Awaited,
     budget: &mut Budget,
     answer: Result<u64, SpaceFault>,
 ) -> Progress
     requires place { task.now.at.place < 2 ^ 63 }
-    requires near { is_near awaited ≡ true }
-    ensures progress { result ≡ (resumed task.now awaited budget.old answer).0 }
-    ensures left { budget.new ≡ (resumed task.now awaited budget.old answer).1 }
+    requires near { is_near awaited.now ≡ true }
+    ensures progress { result ≡ (resumed task.now awaited.now budget.old answer).0 }
+    ensures left { budget.new ≡ (resumed task.now awaited.now budget.old answer).1 }
     ensures sound { is_sound result ≡ true }
 {
     match answer {
@@ -120,14 +120,14 @@ pub fn resumed(
 /// How it goes on after an access that was made.
 #[tactic(auto, using(std::proofs::lemmas::Bool::Decides::nat_tests))]
 #[inline(always)]
-fn heard(task: &Task, awaited: Awaited, budget: &mut Budget, number: u64) -> Progress
+fn heard(task: &Task, awaited: &Awaited, budget: &mut Budget, number: u64) -> Progress
     requires place { task.now.at.place < 2 ^ 63 }
-    requires near { is_near awaited ≡ true }
-    ensures progress { result ≡ (heard task.now awaited budget.old number).0 }
-    ensures left { budget.new ≡ (heard task.now awaited budget.old number).1 }
+    requires near { is_near awaited.now ≡ true }
+    ensures progress { result ≡ (heard task.now awaited.now budget.old number).0 }
+    ensures left { budget.new ≡ (heard task.now awaited.now budget.old number).1 }
     ensures sound { is_sound result ≡ true }
 {
-    match awaited {
+    match *awaited {
         Awaited::Stall(_) => Progress::Done(task.at.next()),
         Awaited::Delay(register) => Progress::Awaits(Awaited::Compared(register)),
         Awaited::Compared(register) => {
@@ -180,13 +180,13 @@ fn located(task: &Task, field: u64, budget: &mut Budget) -> Progress
 
 /// How it goes on after an access that was refused. A wait can't be.
 #[inline(always)]
-fn refused(task: &Task, awaited: Awaited, fault: SpaceFault) -> Progress
+fn refused(task: &Task, awaited: &Awaited, fault: SpaceFault) -> Progress
     requires place { task.now.at.place < 2 ^ 63 }
-    requires near { is_near awaited ≡ true }
-    ensures progress { result ≡ refused task.now awaited fault }
+    requires near { is_near awaited.now ≡ true }
+    ensures progress { result ≡ refused task.now awaited.now fault }
     ensures sound { is_sound result ≡ true }
 {
-    match awaited {
+    match *awaited {
         Awaited::Stall(_) => Progress::Done(task.at.next()),
         Awaited::Delay(register) => Progress::Awaits(Awaited::Compared(register)),
         _ => {

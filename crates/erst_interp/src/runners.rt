@@ -125,7 +125,7 @@ fn answered(state: RunState, budget: &mut Budget, answer: Result<u64, SpaceFault
 {
     match state {
         RunState::Awaiting(task, awaited) => {
-            let progress = resumed(&task, awaited, budget, answer);
+            let progress = resumed(&task, &awaited, budget, answer);
             state_of(&task, progress)
         }
         _ => state,

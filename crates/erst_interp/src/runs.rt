@@ -86,7 +86,7 @@ fn execute<S: Space>(
     };
     'accesses: loop {
         let answer = awaited.demand(task).make(space);
-        match resumed(task, awaited, budget, answer) {
+        match resumed(task, &awaited, budget, answer) {
             Progress::Done(next) => return Ok(next),
             Progress::Stopped(stop) => return Err(stop),
             Progress::Awaits(further) => awaited = further,

@@ -56,10 +56,10 @@ pub enum RunState {
 impl Awaited {
     /// The access itself.
     #[inline(always)]
-    pub fn demand(self, task: &Task) -> Demand
-        ensures { result ≡ demand_of task.now self }
+    pub fn demand(&self, task: &Task) -> Demand
+        ensures { result ≡ demand_of task.now self.now }
     {
-        match self {
+        match *self {
             Awaited::Stall(micros) => Demand::Pause { micros },
             Awaited::Delay(_) => Demand::Pause {
                 micros: task.at.var1,
