@@ -2,6 +2,7 @@ pub mod Terms
 pub mod Rules
 pub mod RequestLemmas
 pub mod SequenceLemmas
+mod StageLemmas
 pub mod CommandLemmas
 pub mod AttachLemmas
 pub mod CauseLemmas

@@ -37,21 +37,3 @@ pub asks_first : {W : Type 0} (allows : W → Call → W → Type 0) (entries : 
 asks_first allows entries request rest budget old answer left mid (Ok done) after last run (answers, more) =
     (answer ∷ answers, Answered request rest budget old answer left mid answers after last run more)
 asks_first allows entries request rest budget old answer left mid (Err stop) after last run more = StopsLater request rest budget old answer left mid stop after last run more
-
--- the next of some requests, of which others were made
-pub asks_next : {W : Type 0} (allows : W → Call → W → Type 0) (entries : List Entry) (requests : List Request) (index : ℕ) (default : Request) (left : ℕ) (mid : W) (answer after : ℕ) (next : W)
-    (result : Result (Unit {0}) RunStop) (last_left : ℕ) (last : W) → index < length requests →
-    Performs allows entries (get_or requests index default).action (get_or requests index default).given left mid (Ok answer) after next →
-    AsksAll allows entries (drop (index + 1) requests) after next result last_left last → AsksAll allows entries (drop index requests) left mid result last_left last
-asks_next allows entries requests index default left mid answer after next result last_left last inside run asks =
-    let rest : suc index ≡ index + 1 = omega arith in
-    let here : drop index requests ≡ get_or requests index default ∷ drop (index + 1) requests = drop-cons requests index default inside ∙ ap (λ (k : ℕ). get_or requests index default ∷ drop k requests) rest in
-    subst (λ (r : List Request). AsksAll allows entries r left mid result last_left last) (sym here)
-    (asks_first allows entries (get_or requests index default) (drop (index + 1) requests) left mid answer after next result last_left last run asks)
-
-pub asks_stop : {W : Type 0} (allows : W → Call → W → Type 0) (entries : List Entry) (requests : List Request) (index : ℕ) (default : Request) (left : ℕ) (mid : W) (stop : RunStop) (after : ℕ) (last : W) →
-    index < length requests → Performs allows entries (get_or requests index default).action (get_or requests index default).given left mid (Err stop) after last →
-    Asks allows entries (drop index requests) left mid (Err stop) after last
-asks_stop allows entries requests index default left mid stop after last inside run =
-    subst (λ (r : List Request). Asks allows entries r left mid (Err stop) after last) (sym (drop-cons requests index default inside))
-    (StopsHere (get_or requests index default) (drop (suc index) requests) left mid stop after last run)

@@ -1,5 +1,5 @@
 -- The accesses of a sequence.
-use Rattle.std.proofs.Common.{◌≡◌, ℕ, suc, ◌+◌, ◌-◌, ◌*◌, ◌^◌, ◌<◌, ◌≤◌, List, Option, Some, None, Result, Ok, Err, refl, sym, subst, arith}
+use Rattle.std.proofs.Common.{◌≡◌, ℕ, suc, ◌+◌, ◌-◌, ◌*◌, ◌<◌, ◌≤◌, List, Option, Some, None, Result, Ok, Err, refl, sym, subst, arith}
 use Rattle.apei_space.specs.Calls.{Call}
 use Rattle.apei_space.specs.Accesses.{Reaches, Goes}
 use Rattle.erst_entries.specs.declared.actions.Action.TheVariants.{CheckBusyStatus, GetCommandStatus, EndOperation}
@@ -9,9 +9,9 @@ use Rattle.erst_client.specs.declared.errors.ClientError.TheVariants.{Late}
 use Rattle.erst_client.specs.declared.requests.Request.{Request}
 use Rattle.erst_client.specs.Requests.{Performs}
 use Rattle.erst_client.specs.Sequences.{Pauses, Untimed, Timed, TooOften, Busy, NotYet, Again, Waits, IsIdle, IsStopped, IsLate, UntilStatus, NotAsked, NotWaited, NotTold, IsTold, Sequence}
-use Rattle.erst_client.specs.Waiting.{Paused, NoPause, Pause, NoTime}
+use Rattle.erst_client.specs.Waiting.{Paused, NoPause, Pause, NoTime, HasWaited, IsWaiting}
 use Rattle.erst_client.proofs.RequestLemmas.{performs_on, asks_on}
-use Rattle.erst_client.proofs.Terms.{end_steps, HasWaited}
+use Rattle.erst_client.proofs.Terms.{end_steps}
 
 pauses_on : {W : Type 0} (allows : W → Call → W → Type 0) (first : W) (timings : Option (ℕ × ℕ)) (busy : ℕ) (old : W) (result : Result (Unit {0}) ClientError) (new : W) →
     Reaches allows first old → Pauses allows timings busy old result new → Reaches allows first new
@@ -97,22 +97,15 @@ pub waited-start : (timings : Option (ℕ × ℕ)) → HasWaited timings 0 0
 waited-start None = refl
 waited-start (Some known) = omega arith
 
--- a client on its way: how often the firmware was busy so far
-pub record IsWaiting {W : Type 0} (allows : W → Call → W → Type 0) (entries : List Entry) (timings : Option (ℕ × ℕ)) (budget : ℕ) (first : W) (waited left : ℕ) (mid : W) : Type 0 where
-  pub busy : ℕ
-  pub runs : Busy allows entries timings budget first busy left mid
-  pub has : HasWaited timings busy waited
-  pub bound : waited ≤ 2 ^ 32
-
 pub waiting-start : {W : Type 0} (allows : W → Call → W → Type 0) (entries : List Entry) (timings : Option (ℕ × ℕ)) (budget : ℕ) (first : W) → IsWaiting allows entries timings budget first 0 budget first
-waiting-start allows entries timings budget first = record { busy = 0; runs = NotYet; has = waited-start timings; bound = omega arith }
+waiting-start allows entries timings budget first = record { busy = 0; runs = NotYet; has = waited-start timings }
 
 pub waiting-on : {W : Type 0} (allows : W → Call → W → Type 0) (entries : List Entry) (timings : Option (ℕ × ℕ)) (budget : ℕ) (first : W) (waited left : ℕ) (mid : W) (answer after : ℕ) (next : W) (longer : ℕ) (new : W) →
     IsWaiting allows entries timings budget first waited left mid → Performs allows entries CheckBusyStatus 0 left mid (Ok answer) after next → (answer ≡ 0 → ⊥) →
-    Paused allows timings waited next (Ok longer) new → longer ≤ 2 ^ 32 → IsWaiting allows entries timings budget first longer after new
-waiting-on allows entries timings budget first waited left mid answer after next longer new on run some paused bound =
+    Paused allows timings waited next (Ok longer) new → IsWaiting allows entries timings budget first longer after new
+waiting-on allows entries timings budget first waited left mid answer after next longer new on run some paused =
     let by = pauses_by allows timings on.busy waited next (Ok longer) new on.has paused in
-    record { busy = suc on.busy; runs = Again on.busy left mid answer after next new on.runs run some by.0; has = by.1; bound = bound }
+    record { busy = suc on.busy; runs = Again on.busy left mid answer after next new on.runs run some by.0; has = by.1 }
 
 pub waiting-late : {W : Type 0} (allows : W → Call → W → Type 0) (entries : List Entry) (timings : Option (ℕ × ℕ)) (budget : ℕ) (first : W) (waited left : ℕ) (mid : W) (answer after : ℕ) (next : W)
     (error : ClientError) (new : W) →

@@ -67,10 +67,5 @@ closed outcome ended = elim outcome [ Err error ↦ Err error | Ok done ↦ elim
 abbrev pub end_steps : ℕ
 end_steps = 64
 
--- so long was waited while the firmware was busy so many times; a client without timings does not count
-abbrev pub HasWaited : Option (ℕ × ℕ) → ℕ → ℕ → Type 0
-HasWaited None busy waited = waited ≡ 0
-HasWaited (Some timings) busy waited = waited ≡ 10 * busy
-
 abbrev pub OfAnswer : {T : Type 0} → ℕ → ℕ → Result T ClientError → Type 0
 OfAnswer before after result = IfErr result (OfError before after)

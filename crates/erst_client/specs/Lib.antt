@@ -5,4 +5,6 @@ pub mod Commands
 pub mod Attaching
 pub mod Causes
 pub mod Waiting
+pub mod Stages
+pub mod Reaching
 pub mod Steps

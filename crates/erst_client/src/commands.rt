@@ -3,12 +3,13 @@ ghost use Rattle.std.specs.Prelude.{◌≡◌, ◌+◌, ◌≤◌, ◌<◌, ◌^
 ghost use Rattle.erst_interp.specs.Moments.{Between, moment};
 ghost use Rattle.erst_client.specs.Commands.{Writes, Puts, ReadsInto, Counts, Names, Fills, write_refusal, copy_refusal};
 ghost use Rattle.erst_client.specs.Attaching.{client_with};
-ghost use Rattle.erst_client.specs.Sequences.{Sequence, read_requests, clear_requests, dummy_requests};
+ghost use Rattle.erst_client.specs.Sequences.{Sequence, clear_requests, dummy_requests};
 
 use crate::attaching::FoundRange;
 use crate::errors::ClientError;
-use crate::requests::{Request, ask};
+use crate::requests::ask;
 use crate::sequences::sequence;
+use crate::stages::Command;
 use apei_bytes::get_u32;
 use apei_space::Space;
 use cper_frame::{HEADER, LENGTH_AT, Record};
@@ -17,13 +18,6 @@ use erst_interp::Budget;
 
 /// Where a record is marked as one in persistent storage (UEFI 2.8, N.2.1).
 const MARK_AT: u64 = 108;
-
-/// An action that isn't given a value.
-fn plain(action: Action) -> Request
-    ensures { result ≡ record { action = action; given = 0 } }
-{
-    Request { action, given: 0 }
-}
 
 /// Puts a record into the range, marked, and has the firmware write it.
 #[tactic(auto, using(crate::proofs::Rules::commands))]
@@ -41,12 +35,7 @@ pub fn write_record<S: Space>(
         return Err(error);
     }
     put(found, bytes, space)?;
-    let requests = [
-        plain(Action::BeginWriteOperation),
-        plain(Action::SetRecordOffset),
-        plain(Action::ExecuteOperation),
-    ];
-    sequence(table, found.timings, &requests, budget, space)
+    sequence(table, found.timings, Command::Write, budget, space)
 }
 
 /// Why bytes are not written.
@@ -96,7 +85,7 @@ pub fn read_record<S: Space>(
     ensures { Between (ReadsInto S.allows (client_with table.now found) id out.old)
         (moment budget.old (S.state space.old)) (result, out.new) (moment budget.new (S.state space.new)) }
 {
-    sequence(table, found.timings, &requests_to_read(id), budget, space)?;
+    sequence(table, found.timings, Command::Read(id), budget, space)?;
     let mut field = [0; 4];
     match space.read_bytes(found.address.wrapping_add(LENGTH_AT as u64), &mut field) {
         Ok(()) => {}
@@ -110,21 +99,6 @@ pub fn read_record<S: Space>(
         Ok(()) => Ok(len as usize),
         Err(error) => Err(error),
     }
-}
-
-/// What has the firmware read a record into the range.
-fn requests_to_read(id: u64) -> [Request; 4]
-    ensures { result ≡ read_requests id }
-{
-    [
-        plain(Action::BeginReadOperation),
-        plain(Action::SetRecordOffset),
-        Request {
-            action: Action::SetRecordIdentifier,
-            given: id,
-        },
-        plain(Action::ExecuteOperation),
-    ]
 }
 
 /// Why a record of this length is not copied out of the range into so much room.
@@ -151,15 +125,7 @@ pub fn clear_record<S: Space>(
     ensures { Between (Sequence S.allows table.now.entries found.timings (clear_requests id))
         (moment budget.old (S.state space.old)) result (moment budget.new (S.state space.new)) }
 {
-    let requests = [
-        plain(Action::BeginClearOperation),
-        Request {
-            action: Action::SetRecordIdentifier,
-            given: id,
-        },
-        plain(Action::ExecuteOperation),
-    ];
-    sequence(table, found.timings, &requests, budget, space)
+    sequence(table, found.timings, Command::Clear(id), budget, space)
 }
 
 /// Has the firmware go through a write that stores nothing.
@@ -172,12 +138,7 @@ pub fn write_dummy<S: Space>(
     ensures { Between (Sequence S.allows table.now.entries found.timings dummy_requests)
         (moment budget.old (S.state space.old)) result (moment budget.new (S.state space.new)) }
 {
-    let requests = [
-        plain(Action::BeginDummyWriteOperation),
-        plain(Action::SetRecordOffset),
-        plain(Action::ExecuteOperation),
-    ];
-    sequence(table, found.timings, &requests, budget, space)
+    sequence(table, found.timings, Command::Dummy, budget, space)
 }
 
 /// Asks how many records are stored.

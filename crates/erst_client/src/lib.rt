@@ -8,6 +8,7 @@ mod commands;
 mod errors;
 mod requests;
 mod sequences;
+mod stages;
 
 pub use client::Client;
 pub use errors::{AttachError, ClientError};

@@ -3,7 +3,7 @@ ghost use Rattle.std.specs.Prelude.{◌≡◌};
 ghost use Rattle.erst_entries.specs.Actions.{code_of};
 ghost use Rattle.erst_entries.specs.Programs.{program_of};
 ghost use Rattle.erst_interp.specs.Moments.{Between, moment};
-ghost use Rattle.erst_client.specs.Requests.{Performs, AsksAll};
+ghost use Rattle.erst_client.specs.Requests.{Performs};
 
 use apei_space::Space;
 use erst_entries::{Action, ErstTable, Program};
@@ -48,24 +48,4 @@ fn perform<S: Space>(
         (moment budget.new (S.state space.new)) }
 {
     run(&program_for(table, action), given, budget, space)
-}
-
-/// Makes requests in order, up to the first that stops.
-#[tactic(auto, using(crate::proofs::Rules::requests))]
-pub fn ask_all<S: Space>(
-    table: &ErstTable,
-    requests: &[Request],
-    budget: &mut Budget,
-    space: &mut S,
-) -> Result<(), RunStop>
-    ensures { Between (AsksAll S.allows table.now.entries requests.now) (moment budget.old (S.state space.old)) result
-        (moment budget.new (S.state space.new)) }
-{
-    for request in requests {
-        match perform(table, request.action, request.given, budget, space) {
-            Ok(_) => {}
-            Err(stop) => return Err(stop),
-        }
-    }
-    Ok(())
 }

@@ -1,134 +1,74 @@
-// The sequence of a command.
-ghost use Rattle.std.specs.Prelude.{◌≡◌, ◌≤◌, ◌^◌, IfOk};
+// The sequence of a command over a space.
+ghost use Rattle.std.specs.Prelude.{◌≡◌};
 ghost use Rattle.erst_interp.specs.Moments.{Between, moment};
-ghost use Rattle.erst_client.specs.Sequences.{Waits, UntilStatus, Sequence, judged};
-ghost use Rattle.erst_client.specs.Waiting.{Paused};
+ghost use Rattle.erst_client.specs.Stages.{requests_of};
+ghost use Rattle.erst_client.specs.Reaching.{Passes, Runs};
+ghost use Rattle.erst_client.specs.Sequences.{Sequence};
 
 use crate::errors::ClientError;
-use crate::requests::{Request, ask, ask_all, program_for};
+use crate::requests::{Request, program_for};
+use crate::stages::{Command, PAUSE, Part, Stage, request_for, turned};
 use apei_space::Space;
-use erst_entries::{Action, ErstTable};
-use erst_interp::{Budget, run};
+use erst_entries::ErstTable;
+use erst_interp::{Budget, RunStop, run};
 
 /// The steps that END_OPERATION has of its own.
-const END_STEPS: u64 = 64;
+pub const END_STEPS: u64 = 64;
 
-/// How long a client waits before it asks again whether the firmware is busy, in microseconds.
-const PAUSE: u64 = 10;
-
-/// Makes the requests, waits until the firmware isn't busy, and asks for the command status; then runs END_OPERATION,
-/// with 64 steps of its own, however that went.
-#[tactic(auto, using(crate::proofs::Rules::sequences))]
+/// Makes the requests of a command, waits until the firmware isn't busy, and asks for the command status; then runs
+/// END_OPERATION, with 64 steps of its own, however that went.
 pub fn sequence<S: Space>(
     table: &ErstTable,
     timings: Option<(u32, u32)>,
-    requests: &[Request],
+    command: Command,
     budget: &mut Budget,
     space: &mut S,
 ) -> Result<(), ClientError>
-    ensures { Between (Sequence S.allows table.now.entries timings requests.now) (moment budget.old (S.state space.old))
-        result (moment budget.new (S.state space.new)) }
-{
-    let outcome = command(table, timings, requests, budget, space);
-    let ended = ask(
-        table,
-        Action::EndOperation,
-        &mut Budget::new(END_STEPS),
-        space,
-    );
-    match outcome {
-        Err(error) => Err(error),
-        Ok(()) => match ended {
-            Ok(_) => Ok(()),
-            Err(stop) => Err(ClientError::Stopped(stop)),
-        },
-    }
-}
-
-/// A command up to its status.
-#[tactic(auto, using(crate::proofs::Rules::sequences))]
-fn command<S: Space>(
-    table: &ErstTable,
-    timings: Option<(u32, u32)>,
-    requests: &[Request],
-    budget: &mut Budget,
-    space: &mut S,
-) -> Result<(), ClientError>
-    ensures { Between (UntilStatus S.allows table.now.entries timings requests.now)
+    ensures { Between (Sequence S.allows table.now.entries timings (requests_of command))
         (moment budget.old (S.state space.old)) result (moment budget.new (S.state space.new)) }
 {
-    match ask_all(table, requests, budget, space) {
-        Ok(()) => {}
-        Err(stop) => return Err(ClientError::Stopped(stop)),
-    }
-    wait(table, timings, budget, space)?;
-    match ask(table, Action::GetCommandStatus, budget, space) {
-        Ok(status) => judge(status),
-        Err(stop) => Err(ClientError::Stopped(stop)),
+    let mut stage = Stage::Requesting(Part::Begin);
+    'stages: loop {
+        match request_for(command, stage) {
+            Some(request) => {
+                let answer = perform(table, stage, request, budget, space);
+                stage = turned(command, timings, stage, answer);
+            }
+            None => match stage {
+                Stage::Waiting(waited) => {
+                    pause(timings, space);
+                    stage = Stage::Checking(waited);
+                }
+                Stage::Done(result) => return result,
+                _ => unreachable!(),
+            },
+        }
     }
 }
 
-/// Runs CHECK_BUSY_STATUS until it answers 0.
-#[tactic(auto, using(crate::proofs::Rules::sequences))]
-fn wait<S: Space>(
+/// Runs the program of a stage.
+fn perform<S: Space>(
     table: &ErstTable,
-    timings: Option<(u32, u32)>,
+    stage: Stage,
+    request: Request,
     budget: &mut Budget,
     space: &mut S,
-) -> Result<(), ClientError>
-    ensures { Between (Waits S.allows table.now.entries timings) (moment budget.old (S.state space.old)) result
+) -> Result<u64, RunStop>
+    ensures { Between (Runs S.allows table.now.entries stage request) (moment budget.old (S.state space.old)) result
         (moment budget.new (S.state space.new)) }
 {
-    let program = program_for(table, Action::CheckBusyStatus);
-    let mut waited = 0;
-    loop {
-        match run(&program, 0, budget, space) {
-            Ok(answer) => {
-                if answer == 0 {
-                    return Ok(());
-                }
-            }
-            Err(stop) => return Err(ClientError::Stopped(stop)),
-        }
-        match pause(timings, waited, space) {
-            Ok(longer) => waited = longer,
-            Err(error) => return Err(error),
-        }
+    let program = program_for(table, request.action);
+    match stage {
+        Stage::Ending(_) => run(&program, request.given, &mut Budget::new(END_STEPS), space),
+        _ => run(&program, request.given, budget, space),
     }
 }
 
-/// Waits a little where the firmware names its timings, unless it is late; answers how long was waited in all.
-#[tactic(auto, using(crate::proofs::Rules::sequences))]
-fn pause<S: Space>(
-    timings: Option<(u32, u32)>,
-    waited: u64,
-    space: &mut S,
-) -> Result<u64, ClientError>
-    requires { waited ≤ 2 ^ 32 }
-    ensures paused { Paused S.allows timings waited (S.state space.old) result (S.state space.new) }
-    ensures bound { IfOk result (λ longer. longer ≤ 2 ^ 32) }
+/// Waits a little before the firmware is asked again, where it names its timings.
+fn pause<S: Space>(timings: Option<(u32, u32)>, space: &mut S)
+    ensures { Passes S.allows timings (S.state space.old) (S.state space.new) }
 {
-    let Some((greatest, _)) = timings else {
-        return Ok(waited);
-    };
-    if waited + PAUSE > u64::from(greatest) {
-        return Err(ClientError::Late { waited });
-    }
-    space.wait(PAUSE);
-    Ok(waited + PAUSE)
-}
-
-/// What a command status says.
-fn judge(status: u64) -> Result<(), ClientError>
-    ensures { result ≡ judged status }
-{
-    match status {
-        0 => Ok(()),
-        1 => Err(ClientError::NoSpace),
-        2 => Err(ClientError::Hardware),
-        3 => Err(ClientError::Failed),
-        4 => Err(ClientError::Empty),
-        5 => Err(ClientError::NotFound),
-        found => Err(ClientError::Status { found }),
+    if timings.is_some() {
+        space.wait(PAUSE);
     }
 }

@@ -2,6 +2,9 @@ pub mod Terms
 pub mod Rules
 mod WorkLemmas
 mod Walking
+mod ProgressLemmas
+mod ToldLemmas
+mod BoundLemmas
 pub mod Consequences
 pub mod StepLemmas
 pub mod StraightLemmas

@@ -21,7 +21,3 @@ pub data Store {W : Type 0} (allows : W → Call → W → Type 0) (register : R
       allows mid (Write register.place register.access (merged number value register.offset entry.mask) answer) new → Store allows register entry value old answer new
   Unread : (fault : SpaceFault) (new : W) → (bit_and entry.flags 1 ≡ 0 → ⊥) →
       allows old (Read register.place register.access (Err fault)) new → Store allows register entry value old (Err fault) new
-
--- the same of a field as one value: its register, and the entry that names its bits
-abbrev pub StoreInto : {W : Type 0} → (W → Call → W → Type 0) → Register × Entry → ℕ → W → Result (Unit {0}) SpaceFault → W → Type 0
-StoreInto allows field value old result new = Store allows field.0 field.1 value old result new

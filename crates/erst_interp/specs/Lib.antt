@@ -4,6 +4,9 @@ pub mod Instructions
 pub mod Works
 pub mod Accesses
 pub mod Steps
-pub mod Settled
 pub mod Runs
 pub mod Straight
+pub mod Demands
+pub mod Continuing
+pub mod Awaiting
+pub mod Told

@@ -55,16 +55,6 @@ pub data Refusal {W : Type 0} (allows : W → Call → W → Type 0) (task : Tas
   NotChanged : (changed : ℕ → ℕ) (register : Register) (x : ℕ) (fault : SpaceFault) (mid new : W) → HasWork task (ChangeField changed) → checked task.entry.region ≡ Ok register →
       FieldRead allows register task.entry.mask old (Ok x) mid → Store allows register task.entry (changed x) mid (Err fault) new → Refusal allows task old fault new
 
--- an instruction whose accesses alone may be refused
-pub data Attempts {W : Type 0} (allows : W → Call → W → Type 0) (task : Task) (old : W) : Result Configuration SpaceFault → W → Type 0 where
-  Succeeds : (d : Configuration) (new : W) → Step allows task old d 0 new → Attempts allows task old (Ok d) new
-  Fails : (fault : SpaceFault) (new : W) → Refusal allows task old fault new → Attempts allows task old (Err fault) new
-
--- what a GOTO answers
-pub data GoesTo (task : Task) (to : ℕ) : Result Configuration RunStop → Type 0 where
-  Within : to < task.len → GoesTo task to (Ok (record (next task.at) { place = to }))
-  Beyond : task.len ≤ to → GoesTo task to (Err (GotoOutside task.at.place to))
-
 -- the instruction stops the run: the stop, the steps that are left of the `paid` that were left after its first, and the space
 -- after it
 pub data Halt {W : Type 0} (allows : W → Call → W → Type 0) (task : Task) (paid : ℕ) (old : W) : RunStop → ℕ → W → Type 0 where

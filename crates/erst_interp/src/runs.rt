@@ -1,14 +1,17 @@
 // A run of a program.
-ghost use Rattle.std.specs.Prelude.{◌≡◌, ◌<◌, ◌≤◌, ℕ, false, Err, OnOk};
+ghost use Rattle.std.specs.Prelude.{◌≡◌, ◌<◌, ◌≤◌, ◌^◌, ℕ, false, Err, OnOk};
 ghost use Rattle.base_model.specs.Faults.{Rose};
 ghost use Rattle.apei_space.specs.Accesses.{Reaches};
 ghost use Rattle.erst_interp.specs.Moments.{Between, moment};
+ghost use Rattle.erst_interp.specs.Steps.{Executes};
 ghost use Rattle.erst_interp.specs.Runs.{Run, may_be_empty};
 
 use crate::budgets::Budget;
 use crate::configurations::{Configuration, Task};
-use crate::steps::execute;
+use crate::instructions::{begun, resumed};
+use crate::states::Progress;
 use crate::stops::RunStop;
+use crate::turns::end_at;
 use apei_space::{Space, SpaceFault};
 use erst_entries::Program;
 
@@ -47,36 +50,53 @@ fn walk<S: Space>(
     ensures { Between (Run S.allows program.now given) (moment budget.old (S.state space.old)) result
         (moment budget.new (S.state space.new)) }
 {
-    let len = program.len();
     let action = program.action();
-    if len == 0 && !may_be_empty(action) {
+    if program.is_empty() && !may_be_empty(action) {
         return Err(RunStop::NoAction {
             code: u64::from(action),
         });
     }
     let mut at = Configuration::begin();
-    while at.place < len {
-        if !budget.take(1) {
-            return Err(RunStop::Budget);
+    'instructions: loop {
+        if let Some(result) = end_at(program, given, &at, budget) {
+            return result;
         }
-        let entry = program.entry(at.place);
-        let task = Task {
-            entry,
-            given,
-            len,
-            at,
-        };
+        let task = Task::of(program, given, at);
         match execute(&task, budget, space) {
             Ok(next) => at = next,
             Err(stop) => return Err(stop),
         }
     }
-    Ok(at.result.unwrap_or(given))
+}
+
+/// Carries out an instruction, whose first step was taken from the budget.
+fn execute<S: Space>(
+    task: &Task,
+    budget: &mut Budget,
+    space: &mut S,
+) -> Result<Configuration, RunStop>
+    requires { task.now.at.place < 2 ^ 63 }
+    ensures { Between (Executes S.allows task.now) (moment budget.old (S.state space.old)) result
+        (moment budget.new (S.state space.new)) }
+{
+    let mut awaited = match begun(task) {
+        Progress::Done(next) => return Ok(next),
+        Progress::Stopped(stop) => return Err(stop),
+        Progress::Awaits(first) => first,
+    };
+    'accesses: loop {
+        let answer = awaited.demand(task).make(space);
+        match resumed(task, &awaited, budget, answer) {
+            Progress::Done(next) => return Ok(next),
+            Progress::Stopped(stop) => return Err(stop),
+            Progress::Awaits(further) => awaited = further,
+        }
+    }
 }
 
 /// Whether a table may leave an action without entries: BEGIN_WRITE_OPERATION, BEGIN_READ_OPERATION,
 /// BEGIN_CLEAR_OPERATION, END_OPERATION and BEGIN_DUMMY_WRITE_OPERATION.
-fn may_be_empty(action: u8) -> bool
+pub fn may_be_empty(action: u8) -> bool
     ensures { result ≡ may_be_empty action }
 {
     matches!(action, 0x0 | 0x1 | 0x2 | 0x3 | 0xb)

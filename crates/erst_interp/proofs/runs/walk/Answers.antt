@@ -1,21 +1,26 @@
-use Rattle.std.proofs.Common.{◌≡◌, ◌≤◌, ◌+◌, Ok, Err, arith}
-use Rattle.std.proofs.lemmas.Bool.Decides.{nat_tests}
-use Rattle.erst_interp.proofs.Walking.{comes_by}
+use Rattle.std.proofs.Common.{Some, Ok, Err}
+use Rattle.erst_interp.proofs.ToldLemmas.{stands_turn, walks_by}
+use Rattle.erst_interp.proofs.BoundLemmas.{walk_falls}
 use Rattle.erst_interp.proofs.runs.walk.Goals as goal
 
-pub loop-at-preserved : goal.loop-at-preserved
-loop-at-preserved g c =
-    let enough : 1 ≤ c.loop-at.budget = grind (arith, nat_tests) in
-    let paid : c.loop-at.budget ≡ c.take.new.self + 1 = omega arith in
-    record {
-      walked = comes_by g.S.Space.allows c.args.program.now c.args.given c.args.budget.now (g.S.Space.state c.args.space.now) c.loop-at.budget c.take.new.self _ c.loop-at.at (g.S.Space.state c.loop-at.space) c.entry-entry.result
-          (Ok c.in-Ok.next) c.execute.new.budget (g.S.Space.state c.execute.new.space) c.loop-at.invariant.has c.loop-at.invariant.walked paid c.len-len.ensures.count c.entry-entry.ensures c.in-Ok.ensures;
-      has = c.loop-at.invariant.has;
-    }
+pub returns-in-Some : goal.returns-in-Some
+returns-in-Some g c =
+    stands_turn g.S.Space.allows c.args.program.now c.args.given c.args.budget.now (g.S.Space.state c.args.space.now) (g.S.Space.state c.instructions.space) c.instructions.at c.instructions.budget (Some c.in-Some.result) c.end_at.new.budget
+    c.in-Some.ensures c.instructions.invariant.has c.instructions.invariant.walked
 
 pub returns-in-Err : goal.returns-in-Err
 returns-in-Err g c =
-    let enough : 1 ≤ c.loop-at.budget = grind (arith, nat_tests) in
-    let paid : c.loop-at.budget ≡ c.take.new.self + 1 = omega arith in
-    comes_by g.S.Space.allows c.args.program.now c.args.given c.args.budget.now (g.S.Space.state c.args.space.now) c.loop-at.budget c.take.new.self _ c.loop-at.at (g.S.Space.state c.loop-at.space) c.entry-entry.result
-    (Err c.in-Err.stop) c.execute.new.budget (g.S.Space.state c.execute.new.space) c.loop-at.invariant.has c.loop-at.invariant.walked paid c.len-len.ensures.count c.entry-entry.ensures c.in-Err.ensures
+    walks_by g.S.Space.allows c.args.program.now c.args.given c.args.budget.now (g.S.Space.state c.args.space.now) (g.S.Space.state c.instructions.space) c.instructions.at c.instructions.budget c.end_at.new.budget c.of-task.result
+    (Err c.in-Err.stop) c.execute.new.budget (g.S.Space.state c.execute.new.space) c.in_default.ensures c.instructions.invariant.has c.instructions.invariant.walked c.of-task.ensures.task c.of-task.ensures.here c.in-Err.ensures
+
+pub instructions-preserved : goal.instructions-preserved
+instructions-preserved g c = record {
+  walked = walks_by g.S.Space.allows c.args.program.now c.args.given c.args.budget.now (g.S.Space.state c.args.space.now) (g.S.Space.state c.instructions.space) c.instructions.at c.instructions.budget c.end_at.new.budget c.of-task.result
+      (Ok c.in-Ok.next) c.execute.new.budget (g.S.Space.state c.execute.new.space) c.in_default.ensures c.instructions.invariant.has c.instructions.invariant.walked c.of-task.ensures.task c.of-task.ensures.here c.in-Ok.ensures;
+  has = c.instructions.invariant.has;
+}
+
+pub instructions-smaller : goal.instructions-smaller
+instructions-smaller g c =
+    walk_falls g.S.Space.allows c.args.program.now c.args.given c.instructions.at c.instructions.budget c.end_at.new.budget c.of-task.result (g.S.Space.state c.instructions.space) c.in-Ok.next
+    c.execute.new.budget (g.S.Space.state c.execute.new.space) c.in_default.ensures c.in-Ok.ensures
