@@ -1,6 +1,6 @@
 /*
  * apei.h - an ACPI error record device (ERST) whose records survive any loss of power, and checks of ACPI error tables,
- * UEFI error records and error status blocks.
+ * UEFI error records and error status blocks. For C99 or C++11, and later ones.
  *
  * A device keeps error records in flash. Your program owns the flash's medium (a chip, a file, a block device), and the
  * device holds a copy of its bytes in memory. So there are three duties, and nothing else is asked of you:
@@ -291,7 +291,7 @@ uint32_t apei_c_part_at(uint32_t item, const uint8_t *bytes, size_t size, uint32
 #ifdef __cplusplus
 #define APEI_ALIGNMENT(type) alignof(type)
 #else
-#define APEI_ALIGNMENT(type) _Alignof(type)
+#define APEI_ALIGNMENT(type) (sizeof(struct { char before; type it; }) - sizeof(type))
 #endif
 #define APEI_IS(pointer, type) ((pointer) != NULL && (uintptr_t)(pointer) % APEI_ALIGNMENT(type) == 0)
 /* No bytes may have no address. */

@@ -27,7 +27,7 @@ where
     M: Medium,
     M::Error: Error + 'static,
 {
-    fn new(mut device: Device<M>) -> Self {
+    fn new(device: Device<M>) -> Self {
         let log_range_size = device.log_range_size();
         Bus {
             device,
@@ -185,11 +185,7 @@ fn record(identifier: u64, length: u32) -> Vec<u8> {
 }
 
 fn open_file(path: &Path) -> std::io::Result<FileMedium> {
-    File::options()
-        .read(true)
-        .write(true)
-        .open(path)
-        .map(FileMedium::new)
+    FileMedium::new(File::options().read(true).write(true).open(path)?)
 }
 
 fn main() -> Result<(), Box<dyn Error>> {
@@ -200,7 +196,7 @@ fn main() -> Result<(), Box<dyn Error>> {
         .create(true)
         .truncate(true)
         .open(&path)?;
-    format(&mut FileMedium::new(file), Geometry::new(4096, 2, 16)?)?;
+    format(&mut FileMedium::new(file)?, Geometry::new(4096, 2, 16)?)?;
 
     let written = record(0x1234_5678, 400);
     {

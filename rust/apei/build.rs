@@ -1,4 +1,4 @@
-//! Finds `libapei.a`: in the folder that `APEI_LIB_DIR` names, or in `lib` at the top of the repository, where `./libapei` puts it.
+//! Finds the archive, `libapei.a`, or `libapei_bare.a` where the crate has no feature `std`: in the folder that `APEI_LIB_DIR` names, or in `lib` at the top of the repository, where `./libapei` puts it.
 use std::{env, path::PathBuf};
 
 fn main() {
@@ -7,7 +7,11 @@ fn main() {
         || PathBuf::from(env!("CARGO_MANIFEST_DIR")).join("../../lib"),
         PathBuf::from,
     );
-    let archive = folder.join("libapei.a");
+    let name = match env::var_os("CARGO_FEATURE_STD") {
+        Some(_) => "apei",
+        None => "apei_bare",
+    };
+    let archive = folder.join(format!("lib{name}.a"));
     if !archive.exists() {
         println!(
             "cargo:warning=there is no {}: run ./libapei, or set APEI_LIB_DIR",
@@ -16,5 +20,5 @@ fn main() {
     }
     println!("cargo:rerun-if-changed={}", archive.display());
     println!("cargo:rustc-link-search=native={}", folder.display());
-    println!("cargo:rustc-link-lib=static=apei");
+    println!("cargo:rustc-link-lib=static={name}");
 }

@@ -1,30 +1,32 @@
-"""Builds the library's archive by each of the two compilers, over what `rt ci` left.
+"""Builds the library's archives.
 
-    tools/run archives FOLDER
+    tools/run archives FOLDER                  each of them, over what `rt ci` left: llvm.a, general.a and rattle.a
+    tools/run archives FILE --KIND ..          one of them, over what tools/build left; ./libapei calls it
 
-`rt ci` proves the crate apei_c and makes no archive of it, and `rt lib`, behind it, proves all crates below once more. So the toolchain's
-own command is called here: it proves apei_c over the libraries that `rt ci` left, and compiles what it proved twice. FOLDER then has
-llvm.a and rattle.a.
+The words of a kind are --compiler=llvm or rattle, --target=x86-64 or aarch64, --cpu=NAME, and --registers=all or general.
+
+`rt ci` proves the crate apei_c and makes no archive of it, and `rt lib`, after it, proves all crates below once more. So the toolchain's
+own command is called: it proves apei_c once for each processor over the libraries that are there, and compiles what it proved.
 
 Where a crate has the library of an earlier check, `rt ci` has put it back in the place of its own, and nothing says of which sources it
-is. Then, and where there is none, a line says so, and the exit status is 77. It is 70 where something was not proved or not built.
+is. Then, and where there is none, a line says so, and the exit status is 77. It is 70 where something was not proved or not built, and 2
+where a kind can't be built.
 """
 
-import shutil
+import os
 import subprocess
 import sys
 from pathlib import Path
 from typing import NoReturn
 
-from apei import TOP, crates
+from apei import TOP
+from apei.archives import COMPILERS, CRATE, TRIPLES, X86, Archives, Kind, NotBuilt, kit, libraries, rlib
 from apei.harness import scratch
 
-CRATE = "apei_c"
-COMPILERS = "llvm", "rattle"
-
-
-def rlib(crate: str) -> Path:
-    return TOP / "crates" / crate / "out" / "rlib" / f"{crate}.rlib"
+# The archives that the gate tries, by the processors that the crate is proved for.
+TRIED = {
+    X86: {"llvm": Kind(), "general": Kind(vectors=False), "rattle": Kind("rattle")},
+}
 
 
 def refuse(why: str) -> NoReturn:
@@ -32,51 +34,69 @@ def refuse(why: str) -> NoReturn:
     sys.exit(77)
 
 
-def run(*words: str | Path) -> None:
-    folder = TOP / "crates" / CRATE
-    done = subprocess.run(words, cwd=folder, stdout=subprocess.PIPE, stderr=subprocess.STDOUT, text=True, errors="replace", check=False)
-    if done.returncode:
-        print(done.stdout)
-        sys.exit(70)
-
-
-def kit_of(libraries: list[str]) -> Path:
-    """The toolchain's folder, where all is there that the archives are built over."""
-    command = shutil.which("rt")
-    if command is None:
+def kit_of() -> Path:
+    folder = kit()
+    if folder is None:
         refuse("there is no rt on this machine")
-    if not all((rlib(it) / "format").exists() for it in libraries):
-        refuse("rt ci left no library of some crate")
-    if any((rlib(it).parent / "stamp").exists() for it in libraries):
+    if not all((rlib(it) / "format").exists() for it in libraries()):
+        refuse("some crate has no library")
+    return folder
+
+
+def build_all(folder: Path) -> None:
+    toolchain = kit_of()
+    if any((rlib(it).parent / "stamp").exists() for it in libraries()):
         refuse("crates have the libraries of earlier checks")
-    return Path(command).resolve().parent.parent
-
-
-def words_of(kit: Path, libraries: list[str], names: list[str]) -> list[str | Path]:
-    """What the compiler is told of the crate: its source, the libraries that it names, and where those are found."""
-    words: list[str | Path] = ["--crate-name", CRATE, "src/lib.rt", "--crate-type", "staticlib", "--links", f"{CRATE}="]
-    for name in ("std", *names):
-        words += ["--extern", f"{name}={rlib(name) if name in libraries else kit / 'rlibs' / f'{name}.rlib'}"]
-    for place in (kit / "rlibs", *(rlib(it).parent for it in libraries)):
-        words += ["-L", f"dependency={place}"]
-    return [*words, "--antt-project", kit / "rattle" / "logic" / "antt-project.json"]
-
-
-def build(folder: Path) -> None:
-    libraries = sorted(crates.below(CRATE, crates.depends()) - {CRATE})
-    kit = kit_of(libraries)
-    words = words_of(kit, libraries, crates.named()[CRATE])
     folder.mkdir(parents=True, exist_ok=True)
-    with scratch() as room:
-        proved, rattle = room / "proved", kit / "bin" / "rattle"
-        run(rattle, "check", *words, "--logic-built", kit / "logic_built", "--jobs", "2", "-o", proved)
-        for compiler in COMPILERS:
-            made = folder.resolve() / f"{compiler}.a"
-            run(rattle, "build", *words, "--crate-checked", proved, "--toolchain", kit / "toolchain", "--backend", compiler, "-o", made)
+    for kinds in TRIED.values():
+        with scratch() as room:
+            archives = Archives(toolchain, room / "proved")
+            archives.prove(next(iter(kinds.values())), 2)
+            for name, kind in kinds.items():
+                archives.build(kind, folder / f"{name}.a")
+
+
+def kind_of(words: list[str]) -> Kind:
+    said = dict(word.partition("=")[::2] for word in words)
+    compiler, target = said.pop("--compiler", "llvm"), said.pop("--target", X86)
+    cpu, registers = said.pop("--cpu", ""), said.pop("--registers", "all")
+    if said or compiler not in COMPILERS or target not in TRIPLES or registers not in ("all", "general"):
+        print(f"no archive is of the kind {' '.join(words)}")
+        sys.exit(2)
+    kind = Kind(compiler, target, cpu or None, registers == "all")
+    if not kind.is_possible:
+        print("the compiler rattle builds for x86-64 alone, and uses vector registers")
+        sys.exit(2)
+    return kind
+
+
+def build_one(made: Path, kind: Kind) -> None:
+    """Builds one kind. What was proved for its processor is kept in the crate's folder `out`, and proved again only once it is another."""
+    if subprocess.run([TOP / "tools" / "build", *libraries()], check=False).returncode:
+        sys.exit(70)
+    kept = TOP / "crates" / CRATE / "out" / "proved" / "-".join([kind.target, *filter(None, [kind.cpu])])
+    archives = Archives(kit_of(), kept)
+    if kept.exists():
+        try:
+            archives.build(kind, made)
+            return
+        except NotBuilt:
+            pass
+    kept.parent.mkdir(parents=True, exist_ok=True)
+    archives.prove(kind, len(os.sched_getaffinity(0)))
+    archives.build(kind, made)
 
 
 def main(words: list[str]) -> int:
-    if len(words) != 1:
+    if not words:
         sys.exit(__doc__)
-    build(Path(words[0]))
+    place, *kind = words
+    try:
+        if kind:
+            build_one(Path(place), kind_of(kind))
+        else:
+            build_all(Path(place))
+    except NotBuilt as why:
+        print(why)
+        return 70
     return 0

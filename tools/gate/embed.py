@@ -1,14 +1,20 @@
 """Has programs embed the library, and loses power in each change that they make.
 
-    tools/run embed ARCHIVE [ARCHIVE ..]
+    tools/run embed [--write] ARCHIVE [ARCHIVE ..]
 
-ARCHIVE is what the crate apei_c is built to, by one compiler each, as the tool `archives` builds them. With each the example firmware of
-examples/embed is linked and formats a medium. Then power is lost in each change of its formatting and of its run, from the first to the
-last, and leaves four things in the range of that change: nothing, all of it, zeros, and 0xA5 in each byte. Each medium that is left is
-opened again: one whose formatting was cut is refused, or is empty; any other has the records from before the command that was cut or those
-after it, and each record that was told as stored. All archives leave the same medium. The names that an archive wants of its program are
-those that docs/EMBED.md lists. A program of tests/embed counts what an archive takes of memory and gives back. Then the Rust crate's tests
-and its example run, where cargo is there. Where there is no C compiler one line says so.
+ARCHIVE is what the crate apei_c is built to, as the tool `archives` builds it. With each the example firmware of examples/embed is linked
+and formats a medium. Then power is lost in each change of its formatting and of its run, from the first to the last, and leaves four things
+in the range of that change: nothing, all of it, zeros, and 0xA5 in each byte. Each medium that is left is opened again: one whose formatting
+was cut is refused, or is empty; any other has the records from before the command that was cut or those after it, and each record that was
+told as stored. All archives leave the same medium. The names that an archive wants of its program are those that docs/EMBED.md lists.
+Programs of tests/embed count what an archive takes of memory and gives back, and try the arena of glue/. Then the Rust crate's tests and its
+example run, where cargo is there.
+
+The machine code of each archive is read, and first that of tests/embed/footprint.c, of which is known what is found: no archive reaches memory below the stack pointer, those named general.a use no vector registers,
+and what docs/EMBED.md says of sizes, registers and stack is what is counted. With --write it is written there, and nothing is run.
+
+Programs for ARM64 are compiled by Debian's gcc-aarch64-linux-gnu and run by its qemu-user. Where these are not there, or there is no C
+compiler, one line says so.
 """
 
 import os
@@ -16,11 +22,14 @@ import shutil
 import subprocess
 import sys
 from collections.abc import Iterator
+from dataclasses import dataclass
 from pathlib import Path
 from typing import Any
 
 from apei import TOP
+from apei.footprint import Footprint, differences, write
 from apei.harness import Tally, scratch, side_by_side
+from apei.machine_code import Code
 
 TEARS = ("nothing", "whole", "zeros", "marks")
 WANTED = {"memcpy", "memmove", "memset", "memcmp", "rattle_alloc", "rattle_realloc", "rattle_dealloc"}
@@ -41,32 +50,89 @@ def make(*words: str | Path) -> None:
         sys.exit(f"embed: {words[0]}: {done.stderr}")
 
 
-def linked(library: Path, program: Path, *sources: Path) -> Path:
-    """A program over the library."""
-    make("cc", *WARNINGS, f"-I{TOP / 'include'}", *sources, library, "-o", program)
-    return program
+@dataclass(frozen=True)
+class System:
+    """How programs for a processor are compiled and run here."""
+
+    # What the names of the compiler and of the programs beside it begin with.
+    prefix: str
+    # What runs a program.
+    runner: tuple[str, ...]
+    # What cargo calls it; None is this machine.
+    triple: str | None = None
+
+    @property
+    def cc(self) -> str:
+        return f"{self.prefix}gcc" if self.prefix else "cc"
+
+    @property
+    def lacks(self) -> list[str]:
+        return [it for it in (self.cc, f"{self.prefix}ar", *self.runner[:1]) if shutil.which(it) is None]
+
+    def linked(self, library: Path, program: Path, *sources: Path) -> Path:
+        """A program over the library."""
+        make(self.cc, *WARNINGS, f"-I{TOP / 'include'}", f"-I{TOP / 'glue'}", *sources, library, "-o", program)
+        return program
+
+    def run(self, program: Path, *words: str | Path) -> subprocess.CompletedProcess[str]:
+        return call(*self.runner, program, *words)
 
 
-def built(archive: Path, folder: Path) -> Path:
+HERE = System("", ())
+ARM = System("aarch64-linux-gnu-", ("qemu-aarch64", "-L", "/usr/aarch64-linux-gnu"), "aarch64-unknown-linux-gnu")
+
+
+def system_of(archive: Path) -> System:
+    return ARM if "aarch64" in call("objdump", "-f", archive).stdout else HERE
+
+
+def built(system: System, archive: Path, folder: Path) -> Path:
     """The library as ./libapei lays it out, and the example firmware over it."""
     folder.mkdir()
     heap, library = folder / "heap.o", folder / "libapei.a"
     shutil.copy(archive, library)
-    make("cc", *WARNINGS, "-fPIC", "-c", TOP / "glue" / "heap_malloc.c", "-o", heap)
-    make("ar", "r", library, heap)
-    return linked(library, folder / "firmware", TOP / "examples" / "embed" / "firmware.c")
+    shutil.copy(archive, folder / "libapei_bare.a")
+    make(system.cc, *WARNINGS, "-fPIC", "-c", TOP / "glue" / "heap_malloc.c", "-o", heap)
+    make(f"{system.prefix}ar", "r", library, heap)
+    return system.linked(library, folder / "firmware", TOP / "examples" / "embed" / "firmware.c")
 
 
-def keeps_memory(archive: Path, folder: Path) -> str | None:
+# The programs that try the memory of an archive, with the files of each.
+MEMORY = {
+    "memory": ("tests/embed/heap.c", "tests/embed/memory.c", "tests/embed/opening.c"),
+    "arena": ("glue/heap_arena.c", "tests/embed/arena.c", "tests/embed/opening.c"),
+}
+
+
+def tries_memory(system: System, archive: Path, folder: Path, name: str) -> str | None:
     """What is wrong with the memory that an archive takes and gives back; None where nothing is."""
-    done = call(linked(archive, folder / "memory", *sorted((TOP / "tests" / "embed").glob("*.c"))))
-    return f"{archive}: {done.stderr}" if done.returncode else None
+    done = system.run(system.linked(archive, folder / name, *(TOP / it for it in MEMORY[name])))
+    return f"{archive}: {name}: {done.stderr}" if done.returncode else None
 
 
-def unknown_names(archive: Path) -> set[str]:
+def unknown_names(system: System, archive: Path) -> set[str]:
     """The names that the archive wants of its program, but for those that it may."""
-    lines = call("nm", "--undefined-only", "--format=posix", archive).stdout.splitlines()
+    lines = call(f"{system.prefix}nm", "--undefined-only", "--format=posix", archive).stdout.splitlines()
     return {line.split()[0] for line in lines if " U" in line} - WANTED
+
+
+def counted(system: System, folder: Path, *words: str) -> Code:
+    """The code of tests/embed/footprint.c."""
+    made = folder / "footprint.o"
+    make(system.cc, *WARNINGS, *words, "-c", TOP / "tests" / "embed" / "footprint.c", "-o", made)
+    return Code(made)
+
+
+def counts_rightly(system: System) -> bool:
+    """Whether what is known of tests/embed/footprint.c is counted in it."""
+    with scratch() as folder:
+        by_abi = counted(system, folder)
+        if system is ARM:
+            return not by_abi.below() and 864 <= by_abi.stacks()["caller"] < 1200 and bool(by_abi.vector_names)
+        plain = counted(system, folder, "-mno-red-zone")
+        stacks = plain.stacks()
+        is_plain = not plain.below() and 64 < stacks["leaf"] < 100 and 864 < stacks["caller"] < 1200
+        return is_plain and len(by_abi.below()) > 0 and "mulsd" in plain.vector_names
 
 
 def states(lines: list[str]) -> Iterator[Records]:
@@ -89,7 +155,8 @@ def told(records: Records) -> list[str]:
 class Firmware:
     """The example over one archive, with a formatted medium."""
 
-    def __init__(self, program: Path, folder: Path) -> None:
+    def __init__(self, system: System, program: Path, folder: Path) -> None:
+        self.system = system
         self.program = program
         self.folder = folder
         self.medium = folder / "medium"
@@ -101,7 +168,7 @@ class Firmware:
         self.left = whole.read_bytes()
 
     def run(self, medium: Path, *words: str) -> subprocess.CompletedProcess[str]:
-        return call(self.program, medium, *words)
+        return self.system.run(self.program, medium, *words)
 
     def is_cut(self, words: tuple[str, ...], step: int, tear: str) -> str | None:
         """What is wrong with the medium that power lost in one change leaves; None where nothing is."""
@@ -146,36 +213,79 @@ class Firmware:
             tally.expect(wrong is None, wrong or "")
 
 
-def rust(library: Path, tally: Tally) -> None:
-    """The tests and the example of the Rust crate, over the library of a folder."""
-    if shutil.which("cargo") is None:
-        print("embed: there is no cargo, so the Rust crate was not tried")
-        return
+def rust(system: System, library: Path, tally: Tally) -> None:
+    """The tests and the example of the Rust crate, over the library of a folder; the tests again without its feature `std`."""
     environment = {**os.environ, "APEI_LIB_DIR": str(library), "CARGO_TARGET_DIR": str(library / "target")}
-    for words in (("test", "--offline", "--quiet"), ("run", "--offline", "--quiet", "--example", "vmm")):
-        done = call("cargo", *words, cwd=TOP / "rust" / "apei", env=environment)
+    target = []
+    if system.triple:
+        upper = system.triple.upper().replace("-", "_")
+        environment |= {f"CARGO_TARGET_{upper}_LINKER": system.cc, f"CARGO_TARGET_{upper}_RUNNER": " ".join(system.runner)}
+        target = ["--target", system.triple]
+    for words in (("test",), ("test", "--no-default-features"), ("run", "--example", "vmm")):
+        done = call("cargo", *words, "--offline", "--quiet", *target, cwd=TOP / "rust" / "apei", env=environment)
         is_right = done.returncode == 0 and (words[0] == "test" or done.stdout.count("as written: true") == 2)
-        tally.expect(is_right, f"cargo {' '.join(words)}: {done.stdout}{done.stderr}")
+        tally.expect(is_right, f"cargo {' '.join([*words, *target])}: {done.stdout}{done.stderr}")
 
 
-def main(archives: list[str]) -> int:
+def lacks_rust(system: System) -> str | None:
+    """What is not there of what the Rust crate wants; None where all is."""
+    if shutil.which("cargo") is None:
+        return "cargo"
+    if system.triple:
+        folder = call("rustc", "--print", "target-libdir", "--target", system.triple).stdout.strip()
+        if not folder or not Path(folder).exists():
+            return f"Rust for {system.triple}"
+    return None
+
+
+def try_archives(archives: list[Path], tally: Tally) -> None:
+    tried: set[System] = set()
+    with scratch() as room:
+        firmwares = []
+        for number, archive in enumerate(archives):
+            system, folder = system_of(archive), room / str(number)
+            if system.lacks:
+                print(f"there is no {' and no '.join(system.lacks)}, so {archive.name} was not tried")
+                continue
+            firmwares.append(Firmware(system, built(system, archive, folder), folder))
+            unknown = unknown_names(system, archive)
+            tally.expect(not unknown, f"{archive} wants {unknown}")
+            for name in MEMORY:
+                wrong = tries_memory(system, archive, folder, name)
+                tally.expect(wrong is None, wrong or "")
+        for firmware in firmwares:
+            tally.expect(firmware.left == firmwares[0].left, "two archives leave two mediums")
+            tally.expect(len(firmware.lines) == 6, f"the run is not whole: {firmware.lines}")
+            firmware.cut_everywhere(tally)
+        for firmware in firmwares:
+            if firmware.system in tried:
+                continue
+            tried.add(firmware.system)
+            lacking = lacks_rust(firmware.system)
+            if lacking:
+                print(f"there is no {lacking}, so the Rust crate was not tried over it")
+            else:
+                rust(firmware.system, firmware.folder, tally)
+
+
+def main(words: list[str]) -> int:
+    archives = [Path(it) for it in words if it != "--write"]
     if not archives:
         sys.exit(__doc__)
     if shutil.which("cc") is None or shutil.which("ar") is None:
         print("there is no C compiler, so the library was not tried")
         return 0
+    footprints = {it.stem: Footprint.of(it) for it in archives if not system_of(it).lacks}
+    if "--write" in words:
+        write(footprints)
+        return 0
     tally = Tally("cases")
-    with scratch() as room:
-        firmwares = []
-        for number, archive in enumerate(archives):
-            folder = room / str(number)
-            firmwares.append(Firmware(built(Path(archive), folder), folder))
-            tally.expect(not unknown_names(Path(archive)), f"{archive} wants {unknown_names(Path(archive))}")
-            wrong = keeps_memory(Path(archive), folder)
-            tally.expect(wrong is None, wrong or "")
-        for firmware in firmwares:
-            tally.expect(firmware.left == firmwares[0].left, "two archives leave two mediums")
-            tally.expect(len(firmware.lines) == 6, f"the run is not whole: {firmware.lines}")
-            firmware.cut_everywhere(tally)
-        rust(firmwares[0].folder, tally)
+    for system in {system_of(it) for it in archives}:
+        tally.expect(bool(system.lacks) or counts_rightly(system), "what stands in tests/embed/footprint.c is not counted")
+    for name, footprint in footprints.items():
+        wrong = footprint.wrong(name)
+        tally.expect(not wrong, "; ".join(wrong))
+    for line in differences(footprints):
+        tally.expect(False, f"docs/EMBED.md is not what is counted, `tools/run embed --write ARCHIVE ..` writes it: {line}")
+    try_archives(archives, tally)
     return tally.end()

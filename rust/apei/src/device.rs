@@ -2,6 +2,9 @@ use crate::error::{answer, Error, Failure, NONE};
 use crate::geometry::{make, Geometry};
 use crate::medium::Medium;
 use crate::raw;
+use alloc::vec::Vec;
+use core::cell::UnsafeCell;
+use core::fmt;
 
 /// The bytes of the register window.
 pub const REGISTERS_SIZE: u64 = 16;
@@ -53,18 +56,45 @@ impl Addresses {
 /// assert_eq!(u64::from_le_bytes(count), 0);
 /// # Ok::<(), Box<dyn std::error::Error>>(())
 /// ```
-pub struct Device<M: Medium> {
-    erst: raw::Erst,
+pub struct Device<M> {
+    handle: Handle,
+    geometry: Geometry,
     medium: M,
 }
 
+/// The archive's handle of an open device, which closes it. Its calls take no lock, so no two threads reach it at once.
+struct Handle(UnsafeCell<raw::Erst>);
+
 // SAFETY: what the handle owns is reached by nothing else.
-unsafe impl<M: Medium + Send> Send for Device<M> {}
+unsafe impl Send for Handle {}
+
+impl Handle {
+    fn erst(&self) -> *mut raw::Erst {
+        self.0.get()
+    }
+}
+
+impl Drop for Handle {
+    fn drop(&mut self) {
+        // SAFETY: the handle is this device's alone.
+        unsafe { raw::apei_c_erst_close(self.erst()) };
+    }
+}
+
+/// Its geometry and its medium: what the guest sees is not shown.
+impl<M: fmt::Debug> fmt::Debug for Device<M> {
+    fn fmt(&self, f: &mut fmt::Formatter<'_>) -> fmt::Result {
+        f.debug_struct("Device")
+            .field("geometry", &self.geometry)
+            .field("medium", &self.medium)
+            .finish_non_exhaustive()
+    }
+}
 
 impl<M: Medium> Device<M> {
     /// Opens the device of a formatted medium.
     pub fn open(medium: M, addresses: Addresses) -> Result<Self, Failure<M::Error>> {
-        Self::open_by(medium, |erst, bytes| {
+        Self::open_by(medium, None, |erst, bytes| {
             // SAFETY: the bytes and the references live as long as the call.
             unsafe { raw::apei_c_erst_open(erst, bytes.as_ptr(), bytes.len(), &addresses.as_raw()) }
         })
@@ -77,7 +107,7 @@ impl<M: Medium> Device<M> {
         geometry: Geometry,
         addresses: Addresses,
     ) -> Result<Self, Failure<M::Error>> {
-        Self::open_by(medium, |erst, bytes| {
+        Self::open_by(medium, Some(geometry), |erst, bytes| {
             // SAFETY: as above.
             unsafe {
                 raw::apei_c_erst_open_raw(
@@ -94,7 +124,7 @@ impl<M: Medium> Device<M> {
     /// Opens the device of a medium and goes on where a device stopped that [`Device::save`] saved: the addresses, the registers and
     /// the log range are that one's, so it answers every access as that one. The medium has to hold what that one's held.
     pub fn load(medium: M, saved: &[u8]) -> Result<Self, Failure<M::Error>> {
-        Self::open_by(medium, |erst, bytes| {
+        Self::open_by(medium, None, |erst, bytes| {
             // SAFETY: the bytes and the handle live as long as the call.
             unsafe {
                 raw::apei_c_erst_load(
@@ -114,7 +144,7 @@ impl<M: Medium> Device<M> {
         geometry: Geometry,
         saved: &[u8],
     ) -> Result<Self, Failure<M::Error>> {
-        Self::open_by(medium, |erst, bytes| {
+        Self::open_by(medium, Some(geometry), |erst, bytes| {
             // SAFETY: as above.
             unsafe {
                 raw::apei_c_erst_load_raw(
@@ -129,31 +159,41 @@ impl<M: Medium> Device<M> {
         })
     }
 
+    /// Opens a device, whose medium tells its geometry unless the caller does.
     fn open_by(
         mut medium: M,
-        open: impl FnOnce(&mut raw::Erst, &[u8]) -> u32,
+        geometry: Option<Geometry>,
+        open: impl FnOnce(*mut raw::Erst, &[u8]) -> u32,
     ) -> Result<Self, Failure<M::Error>> {
         let bytes = medium.contents().map_err(Failure::Medium)?;
-        let mut erst = raw::Erst::closed();
-        answer(open(&mut erst, &bytes))?;
-        let mut device = Device { erst, medium };
+        let handle = Handle(UnsafeCell::new(raw::Erst::closed()));
+        answer(open(handle.erst(), &bytes))?;
+        let geometry = geometry
+            .or_else(|| Geometry::of_medium(&bytes))
+            .ok_or(Error::Foreign)?;
+        drop(bytes);
+        let mut device = Device {
+            handle,
+            geometry,
+            medium,
+        };
         device.make_changes()?;
         Ok(device)
     }
 
     /// Reads bytes of a window, as the guest does.
-    pub fn read(&mut self, window: Window, offset: u64, bytes: &mut [u8]) -> Result<(), Error> {
+    pub fn read(&self, window: Window, offset: u64, bytes: &mut [u8]) -> Result<(), Error> {
         match window {
             // SAFETY: the bytes and the handle live as long as the call.
             Window::LogRange => answer(unsafe {
-                raw::apei_c_erst_get(&mut self.erst, offset, bytes.as_mut_ptr(), bytes.len())
+                raw::apei_c_erst_get(self.handle.erst(), offset, bytes.as_mut_ptr(), bytes.len())
             }),
             Window::Registers => {
                 let size = register_size(bytes.len())?;
                 let mut value = 0;
                 // SAFETY: the handle and the value live as long as the call.
                 answer(unsafe {
-                    raw::apei_c_erst_read(&mut self.erst, 0, offset, size, &mut value)
+                    raw::apei_c_erst_read(self.handle.erst(), 0, offset, size, &mut value)
                 })?;
                 bytes.copy_from_slice(&value.to_le_bytes()[..bytes.len()]);
                 Ok(())
@@ -171,7 +211,7 @@ impl<M: Medium> Device<M> {
         match window {
             // SAFETY: the bytes and the handle live as long as the call.
             Window::LogRange => answer(unsafe {
-                raw::apei_c_erst_put(&mut self.erst, offset, bytes.as_ptr(), bytes.len())
+                raw::apei_c_erst_put(self.handle.erst(), offset, bytes.as_ptr(), bytes.len())
             })?,
             Window::Registers => {
                 let size = register_size(bytes.len())?;
@@ -180,7 +220,7 @@ impl<M: Medium> Device<M> {
                 // SAFETY: the handle lives as long as the call.
                 answer(unsafe {
                     raw::apei_c_erst_write(
-                        &mut self.erst,
+                        self.handle.erst(),
                         0,
                         offset,
                         size,
@@ -196,45 +236,59 @@ impl<M: Medium> Device<M> {
     /// The guest was reset: the registers are as at first, and an execution that runs is abandoned.
     pub fn reset(&mut self) -> Result<(), Failure<M::Error>> {
         // SAFETY: the handle lives as long as the call.
-        answer(unsafe { raw::apei_c_erst_reset(&mut self.erst) })?;
+        answer(unsafe { raw::apei_c_erst_reset(self.handle.erst()) })?;
         self.make_changes()
     }
 
     /// Other addresses, as when the windows of a PCI device are moved. The table is another then.
     pub fn move_to(&mut self, addresses: Addresses) -> Result<(), Error> {
         // SAFETY: the handle and the addresses live as long as the call.
-        answer(unsafe { raw::apei_c_erst_move(&mut self.erst, &addresses.as_raw()) })
+        answer(unsafe { raw::apei_c_erst_move(self.handle.erst(), &addresses.as_raw()) })
     }
 
     /// The Error Record Serialization Table for these addresses, sealed: give it to the guest.
-    pub fn table(&mut self) -> Vec<u8> {
+    pub fn table(&self) -> Vec<u8> {
         sized(|bytes, size| {
             // SAFETY: the bytes and the references live as long as the call.
-            unsafe { raw::apei_c_erst_table(&mut self.erst, bytes.as_mut_ptr(), bytes.len(), size) }
+            unsafe {
+                raw::apei_c_erst_table(self.handle.erst(), bytes.as_mut_ptr(), bytes.len(), size)
+            }
         })
         .unwrap_or_default()
     }
 
     /// The bytes of the log range: those of the longest record.
-    pub fn log_range_size(&mut self) -> u64 {
+    pub fn log_range_size(&self) -> u64 {
         let mut size = 0;
         // SAFETY: the handle and the size live as long as the call.
-        unsafe { raw::apei_c_erst_range_size(&mut self.erst, &mut size) };
+        unsafe { raw::apei_c_erst_range_size(self.handle.erst(), &mut size) };
         size
     }
 
     /// What the device is beside its medium, as bytes: the addresses of its windows, its registers and its log range.
     /// [`Device::load`] makes a device of them. [`Error::Busy`] while an execution runs.
-    pub fn save(&mut self) -> Result<Vec<u8>, Error> {
+    pub fn save(&self) -> Result<Vec<u8>, Error> {
         sized(|bytes, size| {
             // SAFETY: the bytes and the references live as long as the call.
-            unsafe { raw::apei_c_erst_save(&mut self.erst, bytes.as_mut_ptr(), bytes.len(), size) }
+            unsafe {
+                raw::apei_c_erst_save(self.handle.erst(), bytes.as_mut_ptr(), bytes.len(), size)
+            }
         })
+    }
+
+    /// How its flash is divided.
+    pub fn geometry(&self) -> Geometry {
+        self.geometry
     }
 
     /// The medium.
     pub fn medium(&self) -> &M {
         &self.medium
+    }
+
+    /// Closes the device. Its medium can be opened again, or kept elsewhere.
+    pub fn into_medium(self) -> M {
+        self.medium
     }
 
     fn make_changes(&mut self) -> Result<(), Failure<M::Error>> {
@@ -244,7 +298,7 @@ impl<M: Medium> Device<M> {
             // SAFETY: `bytes` has the room that is told, and the references live as long as the call.
             let status = unsafe {
                 raw::apei_c_erst_change(
-                    &mut self.erst,
+                    self.handle.erst(),
                     &mut change,
                     bytes.as_mut_ptr(),
                     bytes.len(),
@@ -256,15 +310,8 @@ impl<M: Medium> Device<M> {
             answer(status)?;
             make(&mut self.medium, &change, &bytes).map_err(Failure::Medium)?;
             // SAFETY: the handle lives as long as the call.
-            answer(unsafe { raw::apei_c_erst_done(&mut self.erst) })?;
+            answer(unsafe { raw::apei_c_erst_done(self.handle.erst()) })?;
         }
-    }
-}
-
-impl<M: Medium> Drop for Device<M> {
-    fn drop(&mut self) {
-        // SAFETY: the handle is this device's alone.
-        unsafe { raw::apei_c_erst_close(&mut self.erst) };
     }
 }
 

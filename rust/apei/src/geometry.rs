@@ -23,6 +23,27 @@ impl Geometry {
         Ok(geometry)
     }
 
+    /// The bytes of a sector.
+    pub fn sector(&self) -> u32 {
+        self.sector
+    }
+
+    /// The sectors of a slot.
+    pub fn sectors_per_slot(&self) -> u32 {
+        self.sectors_per_slot
+    }
+
+    /// The slots, each of which holds one record or none.
+    pub fn slots(&self) -> u32 {
+        self.slots
+    }
+
+    /// That of a medium, as its first sector tells it (docs/EMBED.md has its bytes); none where these are no medium's.
+    pub(crate) fn of_medium(bytes: &[u8]) -> Option<Self> {
+        let number = |at: usize| Some(u32::from_le_bytes(bytes.get(at..at + 4)?.try_into().ok()?));
+        Geometry::new(number(16)?, number(20)?, number(24)?).ok()
+    }
+
     /// The bytes of a medium of this geometry.
     pub fn medium_size(&self) -> u64 {
         self.size().unwrap_or(0)

@@ -1,6 +1,7 @@
-use std::convert::Infallible;
-use std::fs::File;
-use std::io::{self, Read, Seek, SeekFrom, Write};
+use alloc::vec;
+use alloc::vec::Vec;
+use core::convert::Infallible;
+use core::fmt;
 
 /// Where a device keeps its flash: a chip, a file, a block device.
 ///
@@ -20,48 +21,35 @@ pub trait Medium {
     fn erase(&mut self, offset: u64, length: u32) -> Result<(), Self::Error>;
 }
 
-/// A medium in a file. Each change is written and synced.
-#[derive(Debug)]
-pub struct FileMedium {
-    file: File,
-}
+impl<M: Medium + ?Sized> Medium for &mut M {
+    type Error = M::Error;
 
-impl FileMedium {
-    /// The medium in a file that can be read and written.
-    pub fn new(file: File) -> Self {
-        FileMedium { file }
+    fn contents(&mut self) -> Result<Vec<u8>, M::Error> {
+        (**self).contents()
     }
 
-    fn write_at(&mut self, offset: u64, bytes: &[u8]) -> io::Result<()> {
-        self.file.seek(SeekFrom::Start(offset))?;
-        self.file.write_all(bytes)?;
-        self.file.sync_data()
-    }
-}
-
-impl Medium for FileMedium {
-    type Error = io::Error;
-
-    fn contents(&mut self) -> io::Result<Vec<u8>> {
-        let mut bytes = Vec::new();
-        self.file.seek(SeekFrom::Start(0))?;
-        self.file.read_to_end(&mut bytes)?;
-        Ok(bytes)
+    fn program(&mut self, offset: u64, bytes: &[u8]) -> Result<(), M::Error> {
+        (**self).program(offset, bytes)
     }
 
-    fn program(&mut self, offset: u64, bytes: &[u8]) -> io::Result<()> {
-        self.write_at(offset, bytes)
-    }
-
-    fn erase(&mut self, offset: u64, length: u32) -> io::Result<()> {
-        self.write_at(offset, &vec![0xFF; length as usize])
+    fn erase(&mut self, offset: u64, length: u32) -> Result<(), M::Error> {
+        (**self).erase(offset, length)
     }
 }
 
 /// A medium in memory. It keeps what it is given as long as it lives.
-#[derive(Clone, Debug, Default, PartialEq, Eq)]
+#[derive(Clone, Default, PartialEq, Eq)]
 pub struct MemoryMedium {
     bytes: Vec<u8>,
+}
+
+/// How many bytes it has.
+impl fmt::Debug for MemoryMedium {
+    fn fmt(&self, f: &mut fmt::Formatter<'_>) -> fmt::Result {
+        f.debug_struct("MemoryMedium")
+            .field("size", &self.bytes.len())
+            .finish()
+    }
 }
 
 impl MemoryMedium {

@@ -70,62 +70,62 @@ extern "C" {
         room: usize,
     ) -> u32;
     pub fn apei_c_erst_open(
-        erst: &mut Erst,
+        erst: *mut Erst,
         medium: *const u8,
         size: usize,
         addresses: &Addresses,
     ) -> u32;
     pub fn apei_c_erst_open_raw(
-        erst: &mut Erst,
+        erst: *mut Erst,
         flash: *const u8,
         size: usize,
         geometry: &Geometry,
         addresses: &Addresses,
     ) -> u32;
-    pub fn apei_c_erst_close(erst: &mut Erst) -> u32;
+    pub fn apei_c_erst_close(erst: *mut Erst) -> u32;
     pub fn apei_c_erst_read(
-        erst: &mut Erst,
+        erst: *mut Erst,
         window: u32,
         offset: u64,
         size: u32,
         value: &mut u64,
     ) -> u32;
     pub fn apei_c_erst_write(
-        erst: &mut Erst,
+        erst: *mut Erst,
         window: u32,
         offset: u64,
         size: u32,
         value: u64,
     ) -> u32;
-    pub fn apei_c_erst_get(erst: &mut Erst, offset: u64, bytes: *mut u8, size: usize) -> u32;
-    pub fn apei_c_erst_put(erst: &mut Erst, offset: u64, bytes: *const u8, size: usize) -> u32;
+    pub fn apei_c_erst_get(erst: *mut Erst, offset: u64, bytes: *mut u8, size: usize) -> u32;
+    pub fn apei_c_erst_put(erst: *mut Erst, offset: u64, bytes: *const u8, size: usize) -> u32;
     pub fn apei_c_erst_change(
-        erst: &mut Erst,
+        erst: *mut Erst,
         change: &mut Change,
         bytes: *mut u8,
         room: usize,
     ) -> u32;
-    pub fn apei_c_erst_done(erst: &mut Erst) -> u32;
-    pub fn apei_c_erst_reset(erst: &mut Erst) -> u32;
-    pub fn apei_c_erst_move(erst: &mut Erst, addresses: &Addresses) -> u32;
-    pub fn apei_c_erst_table(erst: &mut Erst, table: *mut u8, room: usize, size: &mut u64) -> u32;
-    pub fn apei_c_erst_save(erst: &mut Erst, bytes: *mut u8, room: usize, size: &mut u64) -> u32;
+    pub fn apei_c_erst_done(erst: *mut Erst) -> u32;
+    pub fn apei_c_erst_reset(erst: *mut Erst) -> u32;
+    pub fn apei_c_erst_move(erst: *mut Erst, addresses: &Addresses) -> u32;
+    pub fn apei_c_erst_table(erst: *mut Erst, table: *mut u8, room: usize, size: &mut u64) -> u32;
+    pub fn apei_c_erst_save(erst: *mut Erst, bytes: *mut u8, room: usize, size: &mut u64) -> u32;
     pub fn apei_c_erst_load(
-        erst: &mut Erst,
+        erst: *mut Erst,
         medium: *const u8,
         size: usize,
         saved: *const u8,
         saved_size: usize,
     ) -> u32;
     pub fn apei_c_erst_load_raw(
-        erst: &mut Erst,
+        erst: *mut Erst,
         flash: *const u8,
         size: usize,
         geometry: &Geometry,
         saved: *const u8,
         saved_size: usize,
     ) -> u32;
-    pub fn apei_c_erst_range_size(erst: &mut Erst, size: &mut u64) -> u32;
+    pub fn apei_c_erst_range_size(erst: *mut Erst, size: &mut u64) -> u32;
     pub fn apei_c_check(
         item: u32,
         bytes: *const u8,

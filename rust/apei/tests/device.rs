@@ -3,7 +3,8 @@
 mod guest;
 
 use apei::{
-    check, Addresses, Device, Error, Failure, Geometry, Item, Medium, MemoryMedium, Window,
+    check, Addresses, CommandStatus, Device, Error, Failure, FaultKind, Geometry, Item, Medium,
+    MemoryMedium, Window,
 };
 use guest::{act, formatted, record, store, Cut, ADDRESSES};
 
@@ -135,7 +136,7 @@ fn a_saved_device_goes_on_elsewhere() {
 
 #[test]
 fn what_is_no_saved_device_is_refused() {
-    let mut device = Device::open(formatted(), ADDRESSES).unwrap();
+    let device = Device::open(formatted(), ADDRESSES).unwrap();
     let saved = device.save().unwrap();
     assert_eq!(saved.len() as u64, 80 + device.log_range_size());
     let load = |bytes: &[u8]| Device::load(formatted(), bytes).err();
@@ -195,7 +196,12 @@ fn the_table_is_one() {
 fn a_record_shows_its_parts() {
     let bytes = record(9, 128);
     assert_eq!(check(Item::Record, &bytes).unwrap().count(), 0);
-    assert!(check(Item::Record, &bytes[..100]).is_err());
+    let fault = check(Item::Record, &bytes[..100]).unwrap_err();
+    assert_eq!((fault.kind, fault.offset), (FaultKind::RecordShort, 100));
+    assert_eq!(
+        fault.to_string(),
+        "bytes of the record are missing (byte 100)"
+    );
     assert!(check(Item::Block, &[0; 19]).is_err());
 }
 
@@ -206,4 +212,79 @@ fn a_device_may_go_to_another_thread() {
         .join()
         .unwrap();
     assert_eq!(count, 0);
+}
+
+#[test]
+fn a_medium_is_lent_and_given_back() {
+    let mut medium = formatted();
+    let mut device = Device::open(&mut medium, ADDRESSES).unwrap();
+    let told = store(&mut device, &record(7, 300)).unwrap();
+    assert_eq!(
+        CommandStatus::from_value(told),
+        Some(CommandStatus::Success)
+    );
+    drop(device);
+    let mut device = Device::open(medium, ADDRESSES).unwrap();
+    assert_eq!(identifiers(&mut device), [7]);
+    let mut device = Device::open(device.into_medium(), ADDRESSES).unwrap();
+    assert_eq!(identifiers(&mut device), [7]);
+}
+
+#[test]
+fn a_device_says_its_geometry() {
+    let geometry = Geometry::new(256, 2, 8).unwrap();
+    let device = Device::open(formatted(), ADDRESSES).unwrap();
+    assert_eq!(device.geometry(), geometry);
+    let saved = device.save().unwrap();
+    let medium = device.into_medium();
+    let flash = MemoryMedium::new(medium.bytes()[256..].to_vec());
+    let loaded = Device::load(medium, &saved).unwrap();
+    assert_eq!(loaded.geometry(), geometry);
+    let raw = Device::open_raw(flash, geometry, ADDRESSES).unwrap();
+    let found = raw.geometry();
+    assert_eq!(
+        (found.sector(), found.sectors_per_slot(), found.slots()),
+        (256, 2, 8)
+    );
+    assert_eq!(
+        format!("{raw:?}"),
+        "Device { geometry: Geometry { sector: 256, sectors_per_slot: 2, slots: 8 }, medium: MemoryMedium { size: 4096 }, .. }"
+    );
+}
+
+#[test]
+fn a_status_has_words() {
+    let words: Vec<String> = (0..7)
+        .filter_map(CommandStatus::from_value)
+        .map(|it| it.to_string())
+        .collect();
+    assert_eq!(
+        words,
+        [
+            "success",
+            "not enough space",
+            "hardware not available",
+            "failed",
+            "record store empty",
+            "record not found"
+        ]
+    );
+}
+
+#[cfg(feature = "std")]
+#[test]
+fn a_file_has_one_medium() {
+    use apei::FileMedium;
+    use std::fs::File;
+
+    let path = std::env::temp_dir().join(format!("apei-medium-{}", std::process::id()));
+    std::fs::write(&path, formatted().bytes()).unwrap();
+    let open = || FileMedium::new(File::options().read(true).write(true).open(&path)?);
+    let mut device = Device::open(open().unwrap(), ADDRESSES).unwrap();
+    assert_eq!(open().unwrap_err().kind(), std::io::ErrorKind::WouldBlock);
+    assert_eq!(store(&mut device, &record(7, 300)).unwrap(), 0);
+    drop(device);
+    let mut device = Device::open(open().unwrap(), ADDRESSES).unwrap();
+    assert_eq!(identifiers(&mut device), [7]);
+    std::fs::remove_file(&path).unwrap();
 }
