@@ -1,0 +1,5 @@
+pub mod StructureLemmas
+pub mod ListLemmas
+pub mod FindingLemmas
+pub mod TextLemmas
+pub mod FileLemmas
