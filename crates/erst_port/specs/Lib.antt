@@ -1,4 +1,5 @@
 pub mod Dues
+pub mod Failures
 pub mod Contents
 pub mod Logs
 pub mod States
