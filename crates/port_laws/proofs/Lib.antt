@@ -5,6 +5,7 @@ pub mod StepLemmas
 pub mod TrailLemmas
 pub mod PlayLemmas
 pub mod DurabilityLemmas
+pub mod FailureLemmas
 pub mod CarryLemmas
 pub mod SequenceLemmas
 pub mod PlaceLemmas

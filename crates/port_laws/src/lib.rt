@@ -4,6 +4,7 @@
 mod commands;
 mod durability;
 mod equivalence;
+mod failures;
 
 pub use commands::{
     a_clear_is_the_maps, a_client_reads_as_the_map, a_client_writes_as_the_map,
@@ -20,3 +21,4 @@ pub use equivalence::{
     a_loaded_port_is_equivalent, a_saved_port_is_taken, equivalent_ports_read_alike,
     equivalent_ports_reset_alike, equivalent_ports_write_alike,
 };
+pub use failures::{a_failed_change_is_a_loss, a_failure_begins, a_failure_is_told};
