@@ -5,11 +5,12 @@
  * A device keeps error records in flash. Your program owns the flash's medium (a chip, a file, a block device), and the
  * device holds a copy of its bytes in memory. So there are three duties, and nothing else is asked of you:
  *
- *   1. After each call that may act (apei_erst_open, _open_raw, _load, _load_raw, _write, _reset): while apei_erst_change tells a
+ *   1. After each call that may act (apei_erst_open, _open_raw, _load, _load_raw, _failed, _write, _reset): while apei_erst_change tells a
  *      change, make it on the medium, wait until it is durable, and say so by apei_erst_done. The changes come one after
  *      another, and none may be skipped or overtaken. Until the last one is done the device takes no action (APEI_DUE).
- *   2. A change that the medium fails ends the device: close it, read the medium again, and open it anew. The same after
- *      a loss of power. Nothing that was told as done is lost.
+ *   2. Where the medium fails a change, read the medium again and hand its bytes to apei_erst_failed: the device goes on over
+ *      them, and the guest is told that its operation failed. After a loss of power, read the medium and open it anew.
+ *      Nothing that was told as done is lost.
  *   3. Nothing else writes the medium, and a device is used by one thread at a time (it may move between threads).
  *
  * What is promised for that: whenever power is lost, also within a change, opening the medium gives the records after the
@@ -17,8 +18,8 @@
  * once, with identical bytes.
  *
  * Units: offsets, sizes and lengths are bytes; addresses are guest-physical (or physical) bytes; numbers are little-endian
- * in memory and plain numbers in calls. All memory is taken by apei_erst_open, _open_raw, _load and _load_raw; no other call
- * takes any, but the checks of a Hardware Error Source Table. None waits. Each call answers a status; where it is not APEI_OK,
+ * in memory and plain numbers in calls. All memory is taken by apei_erst_open, _open_raw, _load and _load_raw; of the other
+ * calls only apei_erst_failed and the checks of a Hardware Error Source Table take any. None waits. Each call answers a status; where it is not APEI_OK,
  * nothing has changed, and no out-parameter is written, unless its comment says otherwise.
  */
 #ifndef APEI_H
@@ -44,7 +45,7 @@ enum apei_status {
     APEI_BUSY = 9,       /* an execution runs */
     APEI_FLASH = 10,     /* the flash failed: no further change can be counted */
     APEI_MEMORY = 11,    /* there was no memory */
-    APEI_GEOMETRY = 12,  /* sectors, sectors a slot or slots are outside their limits */
+    APEI_GEOMETRY = 12,  /* sectors, sectors a slot or slots are outside their limits, or are not the device's */
     APEI_FOREIGN = 13,   /* the medium does not begin with the library's own sector */
     APEI_VERSION = 14,   /* it does, with a version that this library does not know */
     APEI_SIZE = 15,      /* it does, for another size; an image of another size than its geometry */
@@ -147,6 +148,15 @@ static inline enum apei_status apei_erst_change(apei_erst *erst, apei_change *ch
 
 /* Says that the medium has made that change, durably. APEI_CLOSED, APEI_NONE. */
 static inline enum apei_status apei_erst_done(apei_erst *erst);
+
+/* The medium failed the change that apei_erst_change told; `medium` has all bytes that the medium holds now (of a device that
+ * was opened by apei_erst_open_raw or _load_raw, those of its flash). The device goes on over them: its records are those of
+ * the medium, what the guest had begun has ended, and GET_COMMAND_STATUS tells FAILED (3) until the guest begins an operation.
+ * The other registers, the addresses and the log range stay. A few changes may be due behind it, as behind an opening. It takes
+ * 11 blocks of memory, as an opening does for all but the handle's own, and then gives back as many. Where there is no memory
+ * the change stays due. APEI_CLOSED, APEI_FOREIGN, APEI_VERSION, APEI_SIZE, APEI_GEOMETRY (the medium's first sector tells
+ * another geometry than the device's), APEI_MEMORY. */
+static inline enum apei_status apei_erst_failed(apei_erst *erst, const uint8_t *medium, size_t size);
 
 /* The guest was reset: all registers are as at first, and an execution that runs is abandoned. A change may be due behind
  * it. APEI_CLOSED, APEI_DUE; APEI_FLASH, with the registers as at first then too. */
@@ -276,6 +286,7 @@ uint32_t apei_c_erst_get(apei_erst *erst, uint64_t offset, uint8_t *bytes, size_
 uint32_t apei_c_erst_put(apei_erst *erst, uint64_t offset, const uint8_t *bytes, size_t size);
 uint32_t apei_c_erst_change(apei_erst *erst, apei_change *change, uint8_t *bytes, size_t room);
 uint32_t apei_c_erst_done(apei_erst *erst);
+uint32_t apei_c_erst_failed(apei_erst *erst, const uint8_t *medium, size_t size);
 uint32_t apei_c_erst_reset(apei_erst *erst);
 uint32_t apei_c_erst_move(apei_erst *erst, const apei_addresses *addresses);
 uint32_t apei_c_erst_table(apei_erst *erst, uint8_t *table, size_t room, uint64_t *size);
@@ -314,7 +325,7 @@ static inline const char *apei_status_text(enum apei_status status)
     case APEI_BUSY: return "an execution runs";
     case APEI_FLASH: return "the flash failed";
     case APEI_MEMORY: return "out of memory";
-    case APEI_GEOMETRY: return "sectors or slots are outside their limits";
+    case APEI_GEOMETRY: return "sectors or slots are outside their limits, or another device's";
     case APEI_FOREIGN: return "the bytes are not the library's own";
     case APEI_VERSION: return "the bytes have a version that is not known";
     case APEI_SIZE: return "the bytes are not as many as the geometry has";
@@ -405,6 +416,13 @@ static inline enum apei_status apei_erst_change(apei_erst *erst, apei_change *ch
 static inline enum apei_status apei_erst_done(apei_erst *erst)
 {
     return APEI_IS(erst, apei_erst) ? (enum apei_status)apei_c_erst_done(erst) : APEI_POINTER;
+}
+
+static inline enum apei_status apei_erst_failed(apei_erst *erst, const uint8_t *medium, size_t size)
+{
+    if (!APEI_IS(erst, apei_erst) || !APEI_ARE(medium, size))
+        return APEI_POINTER;
+    return (enum apei_status)apei_c_erst_failed(erst, APEI_BYTES(medium), size);
 }
 
 static inline enum apei_status apei_erst_reset(apei_erst *erst)

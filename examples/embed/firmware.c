@@ -3,9 +3,10 @@
  *
  *     firmware FILE format            makes the file a medium of 16 slots
  *     firmware FILE play [N [TEAR]]   writes, replaces and clears records; power is lost in change N, from 0
+ *     firmware FILE play N TEAR fail  the same, but the flash fails that change, and power stays
  *     firmware FILE list              opens the file as after a reset, and shows the records in it
  *
- * TEAR says what a change that power cuts leaves in its range: nothing, whole, zeros, or marks (0xA5 in each byte).
+ * TEAR says what such a change leaves in its range: nothing, whole, zeros, or marks (0xA5 in each byte).
  *
  * The firmware reaches its own device as an operating system would: by the registers and the log range of its table. Each
  * line of `play` is written once the device has told the guest that the command is done.
@@ -44,10 +45,11 @@ enum { RECORD_HEADER = 128, LENGTH_AT = 20, IDENTIFIER_AT = 96, LONGEST = 8192 }
 static const apei_geometry geometry = {.sector = 4096, .sectors_per_slot = 2, .slots = 16};
 static const apei_addresses addresses = {.registers = 0xFED40000, .range = 0xFED50000};
 
-/* The medium: a file, and the change in which power is lost. */
+/* The medium: a file, and the change in which power is lost or which the flash fails. */
 struct medium {
     int file;
     bool is_cut;
+    bool only_fails;
     uint64_t cut_at;
     const char *tear;
     uint64_t changes;
@@ -71,8 +73,8 @@ static void put_bytes(int file, uint64_t offset, const uint8_t *bytes, size_t si
         stop("write");
 }
 
-/* What power lost within a change leaves in its range, and the end of this run. */
-static void lose_power(const struct medium *medium, const apei_change *change, const uint8_t *whole)
+/* What a change that is cut leaves in its range. */
+static void tear_change(const struct medium *medium, const apei_change *change, const uint8_t *whole)
 {
     static uint8_t left[32768];
     if (strcmp(medium->tear, "whole") == 0)
@@ -81,11 +83,10 @@ static void lose_power(const struct medium *medium, const apei_change *change, c
         memset(left, medium->tear[0] == 'z' ? 0x00 : 0xA5, change->length);
         put_bytes(medium->file, change->offset, left, change->length);
     }
-    _exit(9);
 }
 
-/* Makes one change of the medium, durably. */
-static void make_change(struct medium *medium, const apei_change *change, const uint8_t *bytes)
+/* Makes one change of the medium, durably: false where the flash fails it. */
+static bool make_change(struct medium *medium, const apei_change *change, const uint8_t *bytes)
 {
     static uint8_t erased[32768];
     const uint8_t *whole = bytes;
@@ -93,12 +94,38 @@ static void make_change(struct medium *medium, const apei_change *change, const 
         memset(erased, 0xFF, change->length);
         whole = erased;
     }
-    if (medium->is_cut && medium->changes == medium->cut_at)
-        lose_power(medium, change, whole);
+    if (medium->is_cut && medium->changes++ == medium->cut_at) {
+        tear_change(medium, change, whole);
+        if (!medium->only_fails)
+            _exit(9);
+        return false;
+    }
     put_bytes(medium->file, change->offset, whole, change->length);
     if (fdatasync(medium->file) != 0)
         stop("sync");
-    medium->changes++;
+    return true;
+}
+
+/* All bytes of the medium. */
+static uint8_t *read_medium(const struct medium *medium, size_t *size)
+{
+    off_t end = lseek(medium->file, 0, SEEK_END);
+    uint8_t *bytes = malloc((size_t)end);
+    if (bytes == NULL || pread(medium->file, bytes, (size_t)end, 0) != end)
+        stop("read");
+    *size = (size_t)end;
+    return bytes;
+}
+
+/* The flash failed a change: the device goes on over what the flash holds. */
+static void go_on(const struct medium *medium, apei_erst *erst)
+{
+    size_t size;
+    uint8_t *bytes = read_medium(medium, &size);
+    enum apei_status status = apei_erst_failed(erst, bytes, size);
+    free(bytes);
+    if (status != APEI_OK)
+        stop_at("apei_erst_failed", status);
 }
 
 /* Makes all changes that are due. */
@@ -107,8 +134,10 @@ static void drain(struct medium *medium, apei_erst *erst)
     apei_change change;
     uint8_t bytes[APEI_PROGRAM_MAX];
     while (apei_erst_change(erst, &change, bytes) == APEI_OK) {
-        make_change(medium, &change, bytes);
-        apei_erst_done(erst);
+        if (make_change(medium, &change, bytes))
+            apei_erst_done(erst);
+        else
+            go_on(medium, erst);
     }
 }
 
@@ -123,17 +152,15 @@ static void format(struct medium *medium)
     if (ftruncate(medium->file, (off_t)size) != 0)
         stop("truncate");
     for (uint64_t step = 0; apei_format_change(&geometry, step, &change, bytes) == APEI_OK; step++)
-        make_change(medium, &change, bytes);
+        if (!make_change(medium, &change, bytes))
+            stop_at("a change of the format", APEI_FLASH);
 }
 
 static void open_device(struct medium *medium, apei_erst *erst)
 {
-    off_t size = lseek(medium->file, 0, SEEK_END);
-    uint8_t *bytes = malloc((size_t)size);
-    enum apei_status status;
-    if (bytes == NULL || pread(medium->file, bytes, (size_t)size, 0) != size)
-        stop("read");
-    status = apei_erst_open(erst, bytes, (size_t)size, &addresses);
+    size_t size;
+    uint8_t *bytes = read_medium(medium, &size);
+    enum apei_status status = apei_erst_open(erst, bytes, size, &addresses);
     free(bytes);
     if (status != APEI_OK)
         stop_at("apei_erst_open", status);
@@ -261,7 +288,7 @@ int main(int count, char **words)
 {
     struct medium medium = {.tear = "nothing"};
     if (count < 3) {
-        fprintf(stderr, "firmware FILE format | play [CHANGE [TEAR]] | list\n");
+        fprintf(stderr, "firmware FILE format | play [CHANGE [TEAR [fail]]] | list\n");
         return 2;
     }
     medium.file = open(words[1], O_RDWR | O_CREAT, 0644);
@@ -273,6 +300,7 @@ int main(int count, char **words)
     }
     if (count > 4)
         medium.tear = words[4];
+    medium.only_fails = count > 5 && strcmp(words[5], "fail") == 0;
     if (strcmp(words[2], "format") == 0)
         format(&medium);
     else if (strcmp(words[2], "play") == 0)

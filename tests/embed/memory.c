@@ -2,7 +2,8 @@
  * Opens, uses and closes devices, and counts the memory that the archive takes and gives back. In each of the four ways of
  * opening, over two geometries:
  *
- *   - an opening takes 12 blocks, and no call between it and the close takes or gives back any;
+ *   - an opening takes 12 blocks, and no call between it and the close takes or gives back any, but that a device whose
+ *     medium failed a change takes 11 and gives back as many;
  *   - a close gives each block back, once;
  *   - an opening that is refused has given back what it took: with each request for memory refused, and for each other reason;
  *   - so it is over each medium that power lost in a replacement leaves: an opening ends the older one of two records there.
@@ -18,7 +19,7 @@
 #include <stdio.h>
 #include <string.h>
 
-enum { ROUNDS = 25, BLOCKS = 12 };
+enum { ROUNDS = 25, BLOCKS = 12, ANEW = BLOCKS - 1 };
 
 static const char *const names[WAYS] = {"open", "open_raw", "load", "load_raw"};
 
@@ -141,6 +142,48 @@ static void use_all(struct opening *with, apei_erst *erst)
     expect(apei_erst_table(erst, bytes, sizeof bytes, &size) == APEI_OK, "there is no table");
     expect(apei_erst_move(erst, &with->addresses) == APEI_OK, "a device is not moved");
     expect(apei_erst_save(erst, with->saved, sizeof with->saved, &with->saved_size) == APEI_OK, "a device is not saved");
+}
+
+/* ---- A medium that fails a change ---- */
+
+static enum apei_status fail_change(const struct opening *with, apei_erst *erst)
+{
+    size_t from = is_raw(with) ? with->geometry.sector : 0;
+    return apei_erst_failed(erst, with->medium + from, with->size - from);
+}
+
+/* The medium fails a change of a write: with each request for memory refused, then with none. */
+static void fail_write(struct opening *with)
+{
+    apei_erst erst = {0};
+    apei_change change;
+    uint8_t bytes[APEI_PROGRAM_MAX], record[200] = {'C', 'P', 'E', 'R', [20] = sizeof record, [96] = 9};
+    unsigned before;
+    openings++;
+    expect(open_device(with, &erst) == APEI_OK, "it is refused");
+    drain(with, &erst);
+    apei_erst_put(&erst, 0, record, sizeof record);
+    act(with, &erst, WRITE, 0);
+    act(with, &erst, EXECUTE, 0);
+    apei_erst_write(&erst, APEI_REGISTERS, 0, 4, BUSY);
+    expect(apei_erst_change(&erst, &change, bytes) == APEI_OK, "a write makes no change");
+    for (heap.answered = 0; heap.answered < ANEW;) {
+        unsigned answered = heap.answered;
+        expect(fail_change(with, &erst) == APEI_MEMORY && heap.held == BLOCKS, "a failure without memory is another one");
+        expect(apei_erst_change(&erst, &change, bytes) == APEI_OK, "a change is no longer due that failed");
+        heap.answered = answered + 1;
+    }
+    heap.answered = UINT_MAX;
+    before = heap.requests;
+    expect(apei_erst_failed(&erst, with->medium, 1) != APEI_OK && heap.requests == before, "a byte is taken for a medium");
+    expect(fail_change(with, &erst) == APEI_OK, "a failure is refused");
+    expect(heap.requests == before + ANEW && heap.held == BLOCKS, "a failure takes another number of blocks");
+    drain(with, &erst);
+    expect(act(with, &erst, BUSY, 0) == 0 && act(with, &erst, STATUS, 0) == 3, "a failed write is told as another one");
+    act(with, &erst, EXECUTE, 0);
+    expect(act(with, &erst, BUSY, 0) == 0 && act(with, &erst, STATUS, 0) == 3, "a failure is told no longer");
+    write_record(with, &erst, 9, 200);
+    expect(apei_erst_close(&erst) == APEI_OK && heap.held == 0, "a close does not give all memory back");
 }
 
 /* ---- What is tried ---- */
@@ -297,6 +340,7 @@ int main(void)
             lose_power(&with);
             for (int round = 0; round < ROUNDS; round++)
                 open_and_close(&with, use_all);
+            fail_write(&with);
         }
     }
     check_table();

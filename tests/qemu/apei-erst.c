@@ -133,18 +133,25 @@ static bool open_device(ApeiErst *s, Error **errp)
     return true;
 }
 
-/* A change that the file failed ends the device: it is opened anew over what the file has then. */
+/* Where the file fails a change, the device goes on over what the file has then, and tells the guest that its operation
+ * failed. Where that cannot be done either, the change stays due, so no action is taken until a later access can do it. */
 static void keep_up(ApeiErst *s)
 {
-    Error *error = NULL;
+    g_autofree char *bytes = NULL;
+    gsize size;
+    enum apei_status status;
 
     if (make_all(s)) {
         return;
     }
     warn_report("acpi-erst: %s failed a change", s->path);
-    apei_erst_close(&s->erst);
-    if (!open_device(s, &error)) {
-        error_report_err(error);
+    if (!g_file_get_contents(s->path, &bytes, &size, NULL)) {
+        warn_report("acpi-erst: %s can't be read", s->path);
+        return;
+    }
+    status = apei_erst_failed(&s->erst, (const uint8_t *)bytes, size);
+    if (status || !make_all(s)) {
+        warn_report("acpi-erst: %s: %s", s->path, apei_status_text(status ? status : APEI_DUE));
     }
 }
 
@@ -166,6 +173,7 @@ static void write_register(void *opaque, hwaddr offset, uint64_t value, unsigned
 {
     ApeiErst *s = opaque;
 
+    keep_up(s);
     apei_erst_write(&s->erst, APEI_REGISTERS, offset, size, value);
     keep_up(s);
 }
@@ -267,6 +275,7 @@ static void reset(DeviceState *device)
 {
     ApeiErst *s = ACPI_ERST(device);
 
+    keep_up(s);
     apei_erst_reset(&s->erst);
     keep_up(s);
 }

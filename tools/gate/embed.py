@@ -36,6 +36,8 @@ WANTED = {"memcpy", "memmove", "memset", "memcmp", "rattle_alloc", "rattle_reall
 WARNINGS = ("-std=c11", "-O2", "-Wall", "-Wextra", "-Wpedantic", "-Werror")
 # What power that was lost ends the example firmware with.
 CUT = 9
+# The command status of a command of which the flash failed a change.
+FAILED = "3"
 
 Records = dict[str, str]
 
@@ -148,6 +150,13 @@ def states(lines: list[str]) -> Iterator[Records]:
         yield dict(records)
 
 
+def possible(lines: list[str]) -> list[list[str]]:
+    """The lists that a medium may have behind these commands: one that failed is carried out there or not."""
+    kept = [line for line in lines if line.split()[-1] != FAILED]
+    done = [line[: -len(FAILED)] + "0" if line.split()[-1] == FAILED else line for line in lines]
+    return [told(list(states(each))[-1]) for each in (kept, done)]
+
+
 def told(records: Records) -> list[str]:
     return [records[name] for name in sorted(records, key=int)]
 
@@ -189,6 +198,19 @@ class Firmware:
         is_right = found.returncode == 0 and found.stdout.splitlines() in allowed
         return None if is_right else f"{case}: {found.stdout}{found.stderr}, allowed {allowed}"
 
+    def has_failed(self, step: int, tear: str) -> str | None:
+        """What is wrong where the flash fails one change of the run; None where nothing is."""
+        medium = self.folder / f"failed-{step}-{tear}"
+        shutil.copy(self.medium, medium)
+        run = self.run(medium, "play", str(step), tear, "fail")
+        found = self.run(medium, "list")
+        medium.unlink()
+        lines = run.stdout.splitlines()
+        failed = [line for line in lines if line.split()[-1] == FAILED]
+        is_right = run.returncode == 0 and len(lines) == len(self.lines) and len(failed) == 1
+        is_kept = found.returncode == 0 and found.stdout.splitlines() in possible(lines)
+        return None if is_right and is_kept else f"change {step} failed, {tear}: {run.stdout}{run.stderr}{found.stdout}{found.stderr}"
+
     def changes(self, *words: str) -> int:
         """How many changes a whole run makes: power that is lost in a later one is not lost."""
         low, high = 0, 1 << 12
@@ -210,6 +232,11 @@ class Firmware:
             for tear in TEARS
         ]
         for wrong in side_by_side(lambda case: self.is_cut(*case), cases):
+            tally.expect(wrong is None, wrong or "")
+
+    def fail_everywhere(self, tally: Tally) -> None:
+        cases = [(step, tear) for step in range(self.changes("play")) for tear in TEARS]
+        for wrong in side_by_side(lambda case: self.has_failed(*case), cases):
             tally.expect(wrong is None, wrong or "")
 
 
@@ -257,6 +284,7 @@ def try_archives(archives: list[Path], tally: Tally) -> None:
             tally.expect(firmware.left == firmwares[0].left, "two archives leave two mediums")
             tally.expect(len(firmware.lines) == 6, f"the run is not whole: {firmware.lines}")
             firmware.cut_everywhere(tally)
+            firmware.fail_everywhere(tally)
         for firmware in firmwares:
             if firmware.system in tried:
                 continue

@@ -9,3 +9,4 @@ pub mod Openings
 pub mod Formats
 pub mod Checks
 pub mod Saving
+pub mod Failing

@@ -6,6 +6,7 @@ mod buffers;
 mod calls;
 mod checks;
 mod devices;
+mod failing;
 mod formats;
 mod handle;
 mod numbers;

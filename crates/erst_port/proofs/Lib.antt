@@ -8,4 +8,5 @@ pub mod TableLemmas
 pub mod OpenLemmas
 pub mod SavedLemmas
 pub mod LoadLemmas
+pub mod FailLemmas
 pub mod LogLemmas

@@ -1,8 +1,9 @@
 pub mod Dues
+pub mod Failures
 pub mod Contents
 pub mod Logs
 pub mod States
-pub mod Failures
+pub mod LastCount
 pub mod Places
 pub mod PortState
 pub mod Changes

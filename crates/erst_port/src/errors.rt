@@ -31,6 +31,15 @@ impl From<MediumError> for OpenError {
     }
 }
 
+/// Why a port is not opened anew after its medium failed a change. Nothing has changed then.
+#[derive(Clone, Copy, Debug, PartialEq, Eq)]
+pub enum ReopenError {
+    /// The medium is not opened.
+    Medium(OpenError),
+    /// Its first sector tells a flash that is divided otherwise than the port's.
+    Geometry,
+}
+
 /// Why a call is refused. Nothing has changed then, but where the flash failed.
 #[derive(Clone, Copy, Debug, PartialEq, Eq)]
 pub enum PortError {

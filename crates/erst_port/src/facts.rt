@@ -1,6 +1,6 @@
 // What holds of every port. The functions do nothing, and their clauses say it.
 ghost use Rattle.erst_entries.specs.Tables.{IsErst};
-ghost use Rattle.erst_port.specs.Failures.{FailsLast};
+ghost use Rattle.erst_port.specs.LastCount.{FailsLast};
 ghost use Rattle.erst_port.specs.PortState.{flash_of};
 ghost use Rattle.erst_port.specs.PortTables.{port_erst};
 

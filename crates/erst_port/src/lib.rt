@@ -10,6 +10,7 @@ mod due;
 mod entries;
 mod errors;
 mod facts;
+mod failing;
 mod loading;
 mod log;
 mod memory;
@@ -23,7 +24,7 @@ mod table;
 mod windows;
 
 pub use due::{Due, Kind};
-pub use errors::{BadAddresses, LoadError, NotDue, OpenError, PortError, SaveError};
+pub use errors::{BadAddresses, LoadError, NotDue, OpenError, PortError, ReopenError, SaveError};
 pub use mirror::MirrorFlash;
 pub use mirror_laws::medium_follows;
 pub use port::Port;

@@ -50,7 +50,7 @@ impl Port {
     }
 
     // Opens the port of the flash behind so many bytes of its medium.
-    fn behind(
+    pub(crate) fn behind(
         alloc: Global,
         origin: usize,
         image: &[u8],

@@ -9,7 +9,7 @@ use Rattle.erst_port.specs.declared.errors.PortError.{PortError}
 use Rattle.erst_port.specs.declared.windows.Location.{Location}
 use Rattle.erst_port.specs.declared.windows.Location.TheVariants.{Action, Value, LowHalf, HighHalf, Bytes, Nowhere}
 use Rattle.erst_port.specs.Accesses.{NumberWritten, ActionWritten, Resets}
-use Rattle.erst_port.specs.Failures.{FailsLast}
+use Rattle.erst_port.specs.LastCount.{FailsLast}
 use Rattle.erst_port.specs.Places.{range_location, location_of}
 use Rattle.erst_port.specs.PortState.{PortState, flash_of}
 use Rattle.port_laws.specs.Calls.{Embedded, Call, Writes, Puts, Restarts, MovesTo, Looks, Makes, Does, Happens}

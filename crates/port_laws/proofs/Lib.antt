@@ -8,6 +8,7 @@ pub mod DurabilityLemmas
 pub mod FaultLemmas
 pub mod LifeLemmas
 pub mod OneGeometry
+pub mod FailureLemmas
 pub mod CarryLemmas
 pub mod SequenceLemmas
 pub mod PlaceLemmas

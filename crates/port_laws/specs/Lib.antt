@@ -1,6 +1,7 @@
 pub mod Calls
 pub mod Beginnings
 pub mod Losses
+pub mod Failures
 pub mod Commands
 pub mod Prefixes
 pub mod Lives

@@ -4,7 +4,7 @@ use Rattle.record_model.specs.RecordMap.{Command}
 use Rattle.flash_model.specs.declared.geometry.Geometry.{Geometry}
 use Rattle.apei_space.specs.Accesses.{Trail}
 use Rattle.erst_port.specs.declared.windows.Addresses.{Addresses}
-use Rattle.erst_port.specs.Failures.{FailsLast}
+use Rattle.erst_port.specs.LastCount.{FailsLast}
 use Rattle.erst_port.specs.Openings.{OpenedAs}
 use Rattle.erst_port.specs.Loaded.{LoadedBy}
 use Rattle.erst_port.specs.PortState.{flash_of}

@@ -4,6 +4,7 @@
 mod commands;
 mod durability;
 mod equivalence;
+mod failures;
 mod lives;
 
 pub use commands::{
@@ -21,6 +22,7 @@ pub use equivalence::{
     a_loaded_port_is_equivalent, a_saved_port_is_taken, equivalent_ports_read_alike,
     equivalent_ports_reset_alike, equivalent_ports_write_alike,
 };
+pub use failures::{a_failed_change_is_a_loss, a_failure_begins, a_failure_is_told};
 pub use lives::{
     a_life_keeps_what_was_told, a_loading_begins, a_medium_starts_a_run,
     no_fault_before_the_last_count,

@@ -7,7 +7,7 @@ ghost use Rattle.record_store.specs.Store.{records_of as records_in};
 ghost use Rattle.apei_space.specs.Accesses.{Trail};
 ghost use Rattle.image_survey.specs.Headers.{IsMedium};
 ghost use Rattle.erst_port.specs.declared.windows.Addresses.{Addresses};
-ghost use Rattle.erst_port.specs.Failures.{FailsLast};
+ghost use Rattle.erst_port.specs.LastCount.{FailsLast};
 ghost use Rattle.erst_port.specs.Loaded.{LoadedBy};
 ghost use Rattle.erst_port.specs.Openings.{OpenedAs, OpenedOn};
 ghost use Rattle.erst_port.specs.PortState.{flash_of};

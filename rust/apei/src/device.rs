@@ -39,7 +39,9 @@ impl Addresses {
 /// The error record device over a medium (ACPI 6.4, section 18.5).
 ///
 /// Each change that an access makes due is made on the medium before the access returns. Where the medium fails one, the
-/// device takes no further action: drop it and open the medium anew.
+/// device goes on over what the medium then holds: its operation has ended, and the guest is told FAILED (ACPI 6.4, section
+/// 18.5.1) until it begins another one. The call answers [`Failure::Medium`], so that the program may say so. If the medium
+/// cannot be read either, no action is taken until a later access can read it.
 ///
 /// ```
 /// use apei::{format, Addresses, Device, Geometry, MemoryMedium, Window};
@@ -60,6 +62,8 @@ pub struct Device<M> {
     handle: Handle,
     geometry: Geometry,
     medium: M,
+    /// The medium failed a change, and the device does not yet go on over what it holds.
+    is_behind: bool,
 }
 
 /// The archive's handle of an open device, which closes it. Its calls take no lock, so no two threads reach it at once.
@@ -176,6 +180,7 @@ impl<M: Medium> Device<M> {
             handle,
             geometry,
             medium,
+            is_behind: false,
         };
         device.make_changes()?;
         Ok(device)
@@ -217,6 +222,7 @@ impl<M: Medium> Device<M> {
                 let size = register_size(bytes.len())?;
                 let mut value = [0; 8];
                 value[..bytes.len()].copy_from_slice(bytes);
+                self.catch_up()?;
                 // SAFETY: the handle lives as long as the call.
                 answer(unsafe {
                     raw::apei_c_erst_write(
@@ -227,7 +233,7 @@ impl<M: Medium> Device<M> {
                         u64::from_le_bytes(value),
                     )
                 })?;
-                self.make_changes()?;
+                self.keep_up()?;
             }
         }
         Ok(())
@@ -235,9 +241,10 @@ impl<M: Medium> Device<M> {
 
     /// The guest was reset: the registers are as at first, and an execution that runs is abandoned.
     pub fn reset(&mut self) -> Result<(), Failure<M::Error>> {
+        self.catch_up()?;
         // SAFETY: the handle lives as long as the call.
         answer(unsafe { raw::apei_c_erst_reset(self.handle.erst()) })?;
-        self.make_changes()
+        self.keep_up()
     }
 
     /// Other addresses, as when the windows of a PCI device are moved. The table is another then.
@@ -289,6 +296,30 @@ impl<M: Medium> Device<M> {
     /// Closes the device. Its medium can be opened again, or kept elsewhere.
     pub fn into_medium(self) -> M {
         self.medium
+    }
+
+    /// Makes what is due. Where the medium fails it, the device goes on over what the medium holds.
+    fn keep_up(&mut self) -> Result<(), Failure<M::Error>> {
+        let outcome = self.make_changes();
+        if let Err(Failure::Medium(_)) = outcome {
+            self.is_behind = true;
+            // If this fails too, the next access tries it again.
+            let _ = self.catch_up();
+        }
+        outcome
+    }
+
+    /// Has a device that fell behind go on over what its medium holds.
+    fn catch_up(&mut self) -> Result<(), Failure<M::Error>> {
+        if !self.is_behind {
+            return Ok(());
+        }
+        let bytes = self.medium.contents().map_err(Failure::Medium)?;
+        // SAFETY: the bytes and the handle live as long as the call.
+        answer(unsafe { raw::apei_c_erst_failed(self.handle.erst(), bytes.as_ptr(), bytes.len()) })?;
+        self.make_changes()?;
+        self.is_behind = false;
+        Ok(())
     }
 
     fn make_changes(&mut self) -> Result<(), Failure<M::Error>> {

@@ -6,7 +6,7 @@ use core::fmt;
 pub enum Error {
     /// Nothing stands at this offset of the window, or not of this size.
     Access,
-    /// A change is due on the medium, which failed it: open the medium anew.
+    /// A change is due on the medium, which failed it.
     Due,
     /// An execution runs: let the guest end it, or reset the device.
     Busy,
@@ -14,7 +14,7 @@ pub enum Error {
     Flash,
     /// There was no memory.
     Memory,
-    /// Sectors, sectors a slot or slots are outside their limits.
+    /// Sectors, sectors a slot or slots are outside their limits, or are not the device's.
     Geometry,
     /// The medium does not begin with the library's own sector.
     Foreign,
@@ -42,7 +42,7 @@ impl fmt::Display for Error {
             Error::Busy => "an execution runs",
             Error::Flash => "the flash failed",
             Error::Memory => "out of memory",
-            Error::Geometry => "sectors or slots are outside their limits",
+            Error::Geometry => "sectors or slots are outside their limits, or another device's",
             Error::Foreign => "the bytes are not the library's own",
             Error::Version => "the bytes have a version that is not known",
             Error::Size => "the bytes are not as many as the geometry has",
@@ -63,7 +63,7 @@ impl core::error::Error for Error {}
 pub enum Failure<E> {
     /// The device refused it.
     Refused(Error),
-    /// The medium failed. Where it failed a change, the device takes no further action: open the medium anew.
+    /// The medium failed. Where it failed a change, the device goes on over what it holds.
     Medium(E),
 }
 

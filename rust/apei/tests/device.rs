@@ -54,6 +54,44 @@ fn power_lost_in_any_change_leaves_the_record_before_or_after() {
     }
 }
 
+/// An action of a guest that a hypervisor goes on with, also where the medium failed a change.
+fn act_anyway(device: &mut Device<Cut>, action: u32) -> u64 {
+    let answer = device.write(Window::Registers, 0, &action.to_le_bytes());
+    assert!(matches!(answer, Ok(()) | Err(Failure::Medium(()))));
+    let mut value = [0; 8];
+    device.read(Window::Registers, 8, &mut value).unwrap();
+    u64::from_le_bytes(value)
+}
+
+fn store_anyway(device: &mut Device<Cut>, bytes: &[u8]) -> u64 {
+    act_anyway(device, 0x0);
+    device.write(Window::LogRange, 0, bytes).unwrap();
+    act_anyway(device, 0x5);
+    while act_anyway(device, 0x6) == 1 {}
+    act_anyway(device, 0x7)
+}
+
+#[test]
+fn a_change_that_the_medium_fails_is_told_as_failed() {
+    const FAILED: u64 = 3;
+    for cut_at in 0.. {
+        let mut device = Device::open(Cut::fails_one(formatted(), cut_at), ADDRESSES).unwrap();
+        let told = store_anyway(&mut device, &record(5, 400));
+        let found = identifiers(&mut device);
+        if told == 0 {
+            assert_eq!(found, [5]);
+            break;
+        }
+        assert_eq!(told, FAILED, "cut at {cut_at}");
+        assert_eq!(act(&mut device, 0x7).unwrap(), FAILED);
+        assert!(found.is_empty() || found == [5], "cut at {cut_at}");
+        assert_eq!(store_anyway(&mut device, &record(6, 200)), 0);
+        let medium = device.medium().medium.clone();
+        let mut device = Device::open(medium, ADDRESSES).unwrap();
+        assert_eq!(identifiers(&mut device), [found, vec![6]].concat());
+    }
+}
+
 #[test]
 fn value_has_two_halves() {
     let mut device = Device::open(formatted(), ADDRESSES).unwrap();

@@ -43,11 +43,12 @@ pub fn store<M: Medium>(device: &mut Device<M>, bytes: &[u8]) -> Result<u64, Fai
     Ok(status)
 }
 
-/// A medium in memory whose power is lost in one change.
+/// A medium in memory whose power is lost in one change, or that fails one change alone.
 pub struct Cut {
     pub medium: MemoryMedium,
     changes: usize,
     cut_at: usize,
+    goes_on: bool,
 }
 
 impl Cut {
@@ -56,6 +57,30 @@ impl Cut {
             medium,
             changes: 0,
             cut_at,
+            goes_on: false,
+        }
+    }
+
+    /// The same, but the change fails, and those behind it do not.
+    #[allow(dead_code)]
+    pub fn fails_one(medium: MemoryMedium, cut_at: usize) -> Self {
+        Cut {
+            goes_on: true,
+            ..Cut::new(medium, cut_at)
+        }
+    }
+
+    fn count(&mut self) -> Result<(), ()> {
+        self.changes += 1;
+        let is_cut = if self.goes_on {
+            self.changes == self.cut_at + 1
+        } else {
+            self.changes > self.cut_at
+        };
+        if is_cut {
+            Err(())
+        } else {
+            Ok(())
         }
     }
 }
@@ -68,20 +93,14 @@ impl Medium for Cut {
     }
 
     fn program(&mut self, offset: u64, bytes: &[u8]) -> Result<(), ()> {
-        self.changes += 1;
-        if self.changes > self.cut_at {
-            return Err(());
-        }
+        self.count()?;
         self.medium
             .program(offset, bytes)
             .map_err(|never| match never {})
     }
 
     fn erase(&mut self, offset: u64, length: u32) -> Result<(), ()> {
-        self.changes += 1;
-        if self.changes > self.cut_at {
-            return Err(());
-        }
+        self.count()?;
         self.medium
             .erase(offset, length)
             .map_err(|never| match never {})
