@@ -55,7 +55,7 @@ SOURCES = [
             "include/acpi/actbl.h": "acpi_table_header|acpi_generic_address",
             "include/acpi/actbl1.h": "(?i:acpi_(?:bert|erst|hest|whea|table_(?:bert|erst|hest)))",
             "include/acpi/actypes.h": "ACPI_ADR_SPACE_",
-            "include/uapi/linux/pci_regs.h": "PCI_(?:COMMAND|STATUS|SEC_STATUS|ERR_|EXP_)",
+            "include/uapi/linux/pci_regs.h": "PCI_(?:COMMAND|STATUS|CAP_LIST|ERR_|EXP_)",
             "drivers/pci/pcie/aer.c": "aer_",
         },
         "\n".join(f"#include <{name}>" for name in ("environment.h", "linux/cper.h", "acpi/ghes.h", "asm/mce.h", "cper_cxl.h")),

@@ -12,11 +12,13 @@ import os
 import re
 import subprocess
 from collections.abc import Iterator
+from dataclasses import replace
 from pathlib import Path
 
-from apei import TOP
+from apei import TOP, foreign
 from apei.facts import FACTS, FORMS, Found, facts, guids_in
 from apei.harness import Tally
+from apei.rows import Row, all_rows
 
 SKIPPED = {"out", "target", ".git", "__pycache__"}
 # The names that foreign sources have for ours, which may be written in any case and with any signs between the words.
@@ -153,11 +155,30 @@ def look_at_guids(tally: Tally) -> None:
         tally.expect(len(faults) == 1, f"two bytes exchanged in the GUID {found.guid} of {path} ({form}) are not found")
 
 
+def others_of(row: Row) -> Iterator[Row]:
+    """Rows of the same name that say something else, in each thing that is compared."""
+    compared = foreign.compared(row)
+    if "bit" in compared:
+        yield replace(row, bit=0 if row.bit is None else None)
+    for word in sorted(compared):
+        if (number := getattr(row, word)) is not None:
+            yield replace(row, **{word: number + 1})
+
+
+def look_at_rows(tally: Tally) -> None:
+    """Each row says what its foreign facts say, and another would not."""
+    rows = list(all_rows())
+    for row in rows:
+        tally.add(foreign.faults_of(row))
+    for other in (other for row in rows for other in others_of(row)):
+        tally.expect(bool(foreign.faults_of(other)), f"this row would not be found: {other}")
+
+
 def look_at_list(tally: Tally) -> None:
     """The list of docs/PROOFS.md is the tool's."""
     section = (TOP / "docs" / "PROOFS.md").read_text(encoding="utf-8").split("## What is compared with a foreign source", 1)[-1].split("\n## ", 1)[0]
     listed = {(found[1], found[2]) for found in re.finditer(r"^- `([^`]+)` \(([^)]*)\)", section, re.M)}
-    for name, clause in listed ^ set(ALONE.items()):
+    for name, clause in listed ^ {*ALONE.items(), *foreign.alone().items()}:
         tally.add([f"docs/PROOFS.md and tools/gate/facts.py do not both list {name} ({clause}) as compared with nothing foreign"])
 
 
@@ -165,6 +186,7 @@ def main(words: list[str]) -> int:
     del words
     tally = Tally("facts")
     look_at_guids(tally)
+    look_at_rows(tally)
     look_at_list(tally)
     if subprocess.run([TOP / "tests/facts/fetch", "--there"], check=False).returncode == 0:
         extracted = subprocess.run([TOP / "tests/facts/extract.py", "--check"], check=False, stdout=subprocess.PIPE)

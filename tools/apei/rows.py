@@ -1,0 +1,145 @@
+"""The tables of fields and names that the sources have: those of the code (*.rt), of the definitions (*.antt), and of the tools' own layouts."""
+
+import re
+from collections.abc import Iterator
+from dataclasses import dataclass
+from pathlib import Path
+
+from apei import TOP
+from apei.show import layouts
+
+NUMBER = r"(?:0x[0-9a-fA-F]+|[\d_]+)"
+
+
+@dataclass(frozen=True)
+class Row:
+    """A row of a table: a field by its place, its validation bit and the bits of it that are meant, or a number by its name."""
+
+    file: str
+    table: str
+    name: str
+    at: int
+    width: int | None = None
+    bit: int | None = None
+    low: int | None = None
+    count: int | None = None
+
+    @property
+    def where(self) -> str:
+        return f"{self.file}: {self.table}, {self.name}"
+
+
+def number(text: str | None) -> int | None:
+    return None if text is None else int(text.replace("_", ""), 0)
+
+
+def certain(text: str) -> int:
+    return int(text.replace("_", ""), 0)
+
+
+CODE_TABLE = re.compile(r"const ([A-Z0-9_]+): \[(Field|Name|&str); \d+\] = \[(.*?)\];", re.S)
+CODE_FIELD = re.compile(
+    rf'(field|bits)!\(\s*({NUMBER}),\s*({NUMBER}),\s*(?:None|Some\(({NUMBER})\)),\s*"([^"]*)",\s*(?:({NUMBER}),\s*({NUMBER}))?'
+)
+CODE_NAME = re.compile(rf'(?:name|space)!\(\s*({NUMBER}),\s*"([^"]*)"\s*,?\s*\)')
+
+
+def code_rows(file: str, text: str) -> Iterator[Row]:
+    for table in CODE_TABLE.finditer(text):
+        name, rows = table[1].lower(), table[3]
+        if table[2] == "&str":
+            yield from (Row(file, name, it, index) for index, it in enumerate(re.findall('"([^"]*)"', rows)))
+        for found in CODE_FIELD.finditer(rows):
+            yield Row(file, name, found[5], certain(found[2]), certain(found[3]), number(found[4]), number(found[6]), number(found[7]))
+        for found in CODE_NAME.finditer(rows):
+            yield Row(file, name, found[2], certain(found[1]))
+
+
+DEFINED_TABLE = re.compile(r"^(?:abbrev|unfoldable)? ?(?:pub )?(\w+) : List (Field|\(ℕ × List ℕ\)|\(List ℕ\))\n\1 =\n(.*?)(?=\n\n|\Z)", re.S | re.M)
+DEFINED_FIELD = re.compile(
+    rf'field ({NUMBER}) ({NUMBER}) (?:None|\(Some ({NUMBER})\))\s+\(codes "([^"]*)"\)\s+(?:\(bits ({NUMBER}) ({NUMBER})|\S)'
+)
+DEFINED_NAME = re.compile(rf'\(({NUMBER}), codes "([^"]*)"\)')
+
+
+def defined_rows(file: str, text: str) -> Iterator[Row]:
+    for table in DEFINED_TABLE.finditer(text):
+        for found in DEFINED_FIELD.finditer(table[3]):
+            yield Row(file, table[1], found[4], certain(found[1]), certain(found[2]), number(found[3]), number(found[5]), number(found[6]))
+        for found in DEFINED_NAME.finditer(table[3]):
+            yield Row(file, table[1], found[2], certain(found[1]))
+        if table[2] == "(List ℕ)":
+            yield from (Row(file, table[1], it, index) for index, it in enumerate(re.findall('codes "([^"]*)"', table[3])))
+
+
+def rows_of(path: Path) -> Iterator[Row]:
+    read = code_rows if path.suffix == ".rt" else defined_rows
+    yield from read(str(path.relative_to(TOP)), path.read_text(encoding="utf-8"))
+
+
+# The tools' layouts by the tables of the crates that have the same fields.
+LAYOUTS = {
+    "table_header_fields": layouts.TABLE_HEADER.fields,
+    "erst_header_fields": layouts.ERST_HEADER.fields,
+    "erst_entry_fields": layouts.ERST_ENTRY.fields,
+    "hest_header_fields": layouts.HEST_HEADER.fields,
+    "bert_fields_fields": layouts.BERT.fields,
+    "bank_fields": layouts.BANK,
+    "machine_check_fields": layouts.SOURCES[0][1].fields,
+    "corrected_check_fields": layouts.SOURCES[1][1].fields,
+    "nmi_source_fields": layouts.SOURCES[2][1].fields,
+    "root_port_fields": layouts.SOURCES[6][1].fields,
+    "pcie_device_fields": layouts.SOURCES[7][1].fields,
+    "pcie_bridge_fields": layouts.SOURCES[8][1].fields,
+    "generic_source_fields": layouts.SOURCES[9][1].fields,
+    "generic_source_2_fields": layouts.SOURCES[10][1].fields,
+    "record_header_fields": layouts.RECORD_HEADER.fields,
+    "section_descriptor_fields": layouts.DESCRIPTOR.fields,
+    "block_status_fields": layouts.BLOCK_STATUS.fields,
+    "long_data_entry_fields": layouts.data_entry(0x300).fields,
+    "processor_generic_fields": layouts.PROCESSOR.fields,
+    "ia32_processor_fields": layouts.IA32.fields,
+    "ia32_error_fields": layouts.IA32.parts[0].fields,
+    "ia32_context_fields": layouts.IA32.parts[1].fields,
+    "ia32_registers_fields": layouts.IA32_CONTEXTS[2],
+    "x64_registers_fields": layouts.IA32_CONTEXTS[3],
+    "arm_processor_fields": layouts.ARM.fields,
+    "arm_error_fields": layouts.ARM.parts[0].fields,
+    "arm_context_fields": layouts.ARM.parts[1].fields,
+    "memory_error_fields": layouts.MEMORY.fields,
+    "memory_error_2_fields": layouts.MEMORY_2.fields,
+    "pci_express_fields": layouts.PCIE.fields,
+    "pci_bus_fields": layouts.PCI_BUS.fields,
+    "pci_component_fields": layouts.PCI_COMPONENT.fields,
+    "register_pair_fields": layouts.PAIR,
+    "firmware_record_fields": layouts.FIRMWARE.fields,
+    "dma_remapping_fields": layouts.DMAR.fields,
+    "directed_io_fields": layouts.VTD.fields,
+    "iommu_fields": layouts.IOMMU.fields,
+    "ccix_fields": layouts.CCIX.fields,
+    "linux_machine_check_fields": layouts.LINUX_MACHINE_CHECK.fields,
+}
+CHECKS = {
+    "check_fields": layouts.CHECK,
+    "bus_check_fields": layouts.BUS_CHECK,
+    "ms_check_fields": layouts.MS_CHECK,
+    "arm_cache_error_fields": layouts.ARM_ERROR,
+    "arm_bus_error_fields": layouts.ARM_BUS_ERROR,
+}
+
+
+def layout_rows() -> Iterator[Row]:
+    """The rows of tools/apei/show/layouts.py."""
+    file = "tools/apei/show/layouts.py"
+    for table, fields in LAYOUTS.items():
+        for it in fields:
+            bits = (it.low, it.count) if it.kind == "bits" else (None, None)
+            yield Row(file, table, it.name, it.at, it.width, it.bit, *bits)
+    for table, checks in CHECKS.items():
+        yield from (Row(file, table, name, 0, 8, bit, low, count) for bit, low, count, name in checks)
+
+
+def all_rows() -> Iterator[Row]:
+    for path in sorted([*TOP.glob("crates/*/src/*.rt"), *TOP.glob("crates/*/specs/*.antt")]):
+        yield from rows_of(path)
+    yield from layout_rows()
