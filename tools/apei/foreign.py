@@ -12,6 +12,9 @@ NAMES = TOP / "tests" / "facts" / "names.txt"
 # Facts that say where a row stands, and not only whether it is valid.
 VALID = "valid:"
 ALONE = "alone "
+# What has the formats of the standards, and no numbers of its own.
+CRATES = "field_lines", "cper_frame", "ghes_block", "hest_sources", "erst_entries", "apei_tables"
+FORMATS = *(f"crates/{name}/" for name in CRATES), "tools/apei/"
 
 
 @dataclass
@@ -29,8 +32,9 @@ def tables() -> dict[str, Table]:
     found: dict[str, Table] = {}
     table = Table()
     for line in NAMES.read_text(encoding="utf-8").splitlines():
-        if head := re.match(r"\[(\w+)\](?: (bits|own|alone (.*)))?$", line):
-            table = found.setdefault(head[1], Table(head[2] == "bits", head[2] == "own", head[3]))
+        if head := re.match(r"\[(.*)\](?: (bits|own|alone (.*)))?$", line):
+            table = Table(head[2] == "bits", head[2] == "own", head[3])
+            found.update({name: table for name in head[1].split(", ")})
         elif " = " in line and not line.startswith("#"):
             name, said = line.split(" = ", 1)
             table.rows[name] = said.split(" | ")
@@ -77,7 +81,9 @@ def mask(row: Row) -> int:
 
 
 def is_number(row: Row, fact: str, bits: bool) -> bool:
-    """Whether the number of a name is that of a fact."""
+    """Whether the number of a name is that of a fact: a number, the size of a structure, or the place of a member."""
+    if fact.startswith("at:"):
+        return row.at == facts().members[fact.removeprefix("at:")].at
     if found := re.fullmatch(r"(\w+)\{(.*)\}", fact):
         return facts().texts.get(found[1], {}).get(str(row.at)) == found[2]
     return numbers(fact) == {1 << row.at if bits else row.at}
@@ -99,6 +105,17 @@ def is_so(row: Row, fact: str, bits: bool) -> bool:
         return row.bit is not None and numbers(name) == {1 << row.bit}
     wanted = {"low": row.low, "mask": mask(row), "bits": mask(row) << (row.low or 0)}[kind]
     return row.at == by and numbers(name) == {wanted}
+
+
+def unknown(rows: list[Row]) -> list[str]:
+    """What names.txt names, and no source has."""
+    have = {(id(tables()[row.table]), row.name) for row in rows if row.table in tables()}
+    return [
+        f"tests/facts/names.txt names {table}, {name}, which no source has"
+        for table, of in tables().items()
+        for name in of.rows
+        if (id(of), name) not in have and not table.startswith("crates/")
+    ]
 
 
 def said_of(row: Row) -> list[str]:
@@ -126,15 +143,14 @@ def compared(row: Row) -> set[str]:
 
 
 def faults_of(row: Row) -> list[str]:
-    """What is wrong with a row."""
-    table = tables().get(row.table)
-    if table is None:
-        return [f"{row.where}: no foreign names for this table are in tests/facts/names.txt"]
+    """What is wrong with a row. In crates that are of a format of the standards each row has to be known."""
+    table = tables().get(row.table, Table())
     if table.own or table.alone:
         return []
     said = table.rows.get(row.name)
     if said is None:
-        return [f"{row.where}: no foreign name for it is in tests/facts/names.txt"]
+        is_of_format = row.file.startswith(FORMATS)
+        return [f"{row.where}: no foreign name for it is in tests/facts/names.txt: {row}"] if is_of_format else []
     wrong = [f"{row.where}: {fact} says something else than {row}" for fact in said if not is_so(row, fact, table.bits)]
     if all(fact.startswith(VALID) for fact in said) or (row.bit is not None) != any(fact.startswith(VALID) for fact in said):
         wrong.append(f"{row.where}: no foreign fact says its place, or its validation bit")

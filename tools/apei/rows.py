@@ -72,9 +72,58 @@ def defined_rows(file: str, text: str) -> Iterator[Row]:
             yield from (Row(file, table[1], it, index) for index, it in enumerate(re.findall('codes "([^"]*)"', table[3])))
 
 
+# Structures that are read from bytes: each field with its place, as code and definitions write it.
+CODE_STRUCTURE = re.compile(r"^ +(\w+) \{\n((?: +\w+(?:: [^\n]*)?,\n)+) +\}", re.M)
+CODE_READ = re.compile(r"(\w+): (get_u(?:8|16|32|64)|byte_at|guid_at|array_at|gas_from)\(\w+, (\d+)\)")
+WIDTHS = {"get_u8": 1, "byte_at": 1, "get_u16": 2, "get_u32": 4, "get_u64": 8, "guid_at": 16, "gas_from": 12}
+DEFINED_STRUCTURE = re.compile(r"^(?:abbrev|unfoldable) pub (\w+) : [^\n]*\n\1 [^\n]*= record \{(.*?)\}", re.S | re.M)
+DEFINED_READ = re.compile(r"(\w+) = (?:number_at \w+ (\d+) (\d+)|\(?(?:gas_at )?\(?part \w+ (\d+) (\d+)\)?)")
+# Numbers by name, in a `match`, in an `elim`, and in an `if`.
+ARM = re.compile(r"(?:(\d+|0x[0-9a-fA-F]+) => (?:Some\()?(\w+)::(\w+)|\b(\w+)::(\w+) => (\d+|0x[0-9a-fA-F]+)),")
+WORD_ARM = re.compile(r"fn (\w+_name)\(.*?\n\}", re.S)
+DEFINED_ARM = re.compile(r"^(?:abbrev|unfoldable) pub (\w+) : (\w+) → ℕ\n\1 [^\n]*elim (.*?)\]", re.S | re.M)
+DEFINED_WORDS = re.compile(r"^abbrev pub (\w+_word) : ℕ → [^\n]*\n\1 (.*?)(?=\n\n|\Z)", re.S | re.M)
+DEFINED_LIST = re.compile(r"^abbrev pub (\w+_of) : ℕ → Option \w+\n\1 [^\n]*=\n(.*?) ∷ \[\]", re.S | re.M)
+CONSTANT = re.compile(rf"^(?:pub(?:\(crate\))? )?const (\w+): (?:usize|u8|u16|u32|u64) = ({NUMBER});", re.M)
+
+
+def code_numbers(file: str, text: str) -> Iterator[Row]:
+    """Places, named numbers and constants of code."""
+    widths = {found[1]: int(found[2]) for found in re.finditer(r"pub (\w+): \[u8; (\d+)\]", text)}
+    for structure in CODE_STRUCTURE.finditer(text):
+        for name, how, at in CODE_READ.findall(structure[2]):
+            yield Row(file, structure[1], name, int(at), WIDTHS.get(how) or widths[name])
+    for code, kind, name, kind_2, name_2, code_2 in ARM.findall(text):
+        yield Row(file, kind or kind_2, name or name_2, certain(code or code_2))
+    for function in WORD_ARM.finditer(text):
+        table = f"{file}: {function[1]}"
+        yield from (Row(file, table, name, int(code)) for code, name in re.findall(r'(\d+) => Some\("(\w+)"\)', function[0]))
+    yield from (Row(file, file, found[1], certain(found[2])) for found in CONSTANT.finditer(text))
+
+
+def defined_numbers(file: str, text: str) -> Iterator[Row]:
+    """Places and named numbers of definitions."""
+    for structure in DEFINED_STRUCTURE.finditer(text):
+        for name, at, width, from_, size in DEFINED_READ.findall(structure[2]):
+            yield Row(file, structure[1], name, int(at or from_), int(width or size))
+    for arms in DEFINED_ARM.finditer(text):
+        yield from (Row(file, arms[2], name, certain(code)) for name, code in re.findall(rf"(\w+) ↦ ({NUMBER})", arms[3]))
+    for words in DEFINED_WORDS.finditer(text):
+        yield from (Row(file, words[1], name, int(code)) for code, name in re.findall(r'== (\d+) then Some \(codes "(\w+)"\)', words[2]))
+    for names in DEFINED_LIST.finditer(text):
+        for code, name in enumerate(re.findall(r"(?:Some )?(\w+)\s*(?=∷|$)", names[2])):
+            if name != "None":
+                yield Row(file, names[1], name, code)
+
+
 def rows_of(path: Path) -> Iterator[Row]:
-    read = code_rows if path.suffix == ".rt" else defined_rows
-    yield from read(str(path.relative_to(TOP)), path.read_text(encoding="utf-8"))
+    file, text = str(path.relative_to(TOP)), path.read_text(encoding="utf-8")
+    if path.suffix == ".rt":
+        yield from code_rows(file, text)
+        yield from code_numbers(file, text)
+    else:
+        yield from defined_rows(file, text)
+        yield from defined_numbers(file, text)
 
 
 # The tools' layouts by the tables of the crates that have the same fields.

@@ -170,6 +170,7 @@ def look_at_rows(tally: Tally) -> None:
     rows = list(all_rows())
     for row in rows:
         tally.add(foreign.faults_of(row))
+    tally.add(foreign.unknown(rows))
     for other in (other for row in rows for other in others_of(row)):
         tally.expect(bool(foreign.faults_of(other)), f"this row would not be found: {other}")
 
