@@ -59,8 +59,11 @@ def moved(name: str) -> tuple[str, int]:
 
 
 def numbers(name: str) -> set[int]:
+    """What a name says: the size of a structure, the place of a member, or a number."""
     if name in facts().sizes:
         return {facts().sizes[name]}
+    if name in facts().members:
+        return {facts().members[name].at}
     return facts().numbers.get(name, set())
 
 
@@ -81,12 +84,11 @@ def mask(row: Row) -> int:
 
 
 def is_number(row: Row, fact: str, bits: bool) -> bool:
-    """Whether the number of a name is that of a fact: a number, the size of a structure, or the place of a member."""
-    if fact.startswith("at:"):
-        return row.at == facts().members[fact.removeprefix("at:")].at
+    """Whether the number of a name is that of a fact."""
     if found := re.fullmatch(r"(\w+)\{(.*)\}", fact):
         return facts().texts.get(found[1], {}).get(str(row.at)) == found[2]
-    return numbers(fact) == {1 << row.at if bits else row.at}
+    name, by = moved(fact)
+    return numbers(name) == {1 << row.at if bits else row.at - by}
 
 
 def is_so(row: Row, fact: str, bits: bool) -> bool:

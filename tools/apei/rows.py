@@ -5,7 +5,7 @@ from collections.abc import Iterator
 from dataclasses import dataclass
 from pathlib import Path
 
-from apei import TOP
+from apei import TOP, names
 from apei.show import layouts
 
 NUMBER = r"(?:0x[0-9a-fA-F]+|[\d_]+)"
@@ -116,7 +116,45 @@ def defined_numbers(file: str, text: str) -> Iterator[Row]:
                 yield Row(file, names[1], name, code)
 
 
+# Where the validation bits of a structure stand, and the structures that repeat inside it: how many, how long, and where theirs stand.
+VALIDITY, SIZE, COUNT = "validation bits", "size", "count"
+CODE_LAYOUT = re.compile(r"Layout = Layout \{\s+valid_at: (\d+),\s+fields: &(\w+),\s+parts_at: (\d+),")
+CODE_PARTS = re.compile(r"const (\w+): \[Parts; \d+\] = \[(.*?)^\];", re.S | re.M)
+CODE_PART = re.compile(
+    r'name: "([^"]*)",\s+count: Count \{\s+at: (\d+),\s+width: (\d+),\s+low: (\d+),\s+bits: (\d+),\s+\},'
+    r"\s+size: Size::(?:Fixed\((\d+)\)|Told \{\s+at: (\d+),\s+width: (\d+),\s+more: (\d+),\s+\}),\s+valid_at: (\d+)"
+)
+DEFINED_LAYOUT = re.compile(r"= structure (\d+) (\w+) (\d+)")
+DEFINED_PARTS = re.compile(r"^\w+ pub (\w+)_groups : [^\n]*\n\1_groups =\n(.*?)(?=\n\n|\Z)", re.S | re.M)
+DEFINED_PART = re.compile(r'group \(codes "([^"]*)"\) (\d+) (\d+) (\d+) (\d+) \((?:fixed (\d+)|told (\d+) (\d+) (\d+))\) (\d+)')
+
+
+def part_rows(file: str, table: str, found: tuple[str, ...]) -> Iterator[Row]:
+    """The numbers of structures that repeat."""
+    name = found[0]
+    at, width, low, bits, fixed, told_at, told_width, more, valid = (int(it) if it else None for it in found[1:])
+    yield Row(file, table, f"{name}: {COUNT}", at or 0, width, None, low, bits)
+    yield Row(file, table, f"{name}: {SIZE}", fixed or more or 0)
+    if told_at is not None:
+        yield Row(file, table, f"{name}: {SIZE} of what is behind", told_at, told_width)
+    if valid:
+        yield Row(file, table, f"{name}: {VALIDITY}", valid)
+
+
+def layouts_in(file: str, text: str) -> Iterator[Row]:
+    is_code = file.endswith(".rt")
+    for found in (CODE_LAYOUT if is_code else DEFINED_LAYOUT).finditer(text):
+        yield Row(file, found[2].lower(), VALIDITY, int(found[1]))
+        if found[3] != "0":
+            yield Row(file, found[2].lower(), SIZE, int(found[3]))
+    for parts in (CODE_PARTS if is_code else DEFINED_PARTS).finditer(text):
+        table = parts[1].lower().removesuffix("_parts") + "_parts"
+        for part in (CODE_PART if is_code else DEFINED_PART).findall(parts[2]):
+            yield from part_rows(file, table, part)
+
+
 def rows_of(path: Path) -> Iterator[Row]:
+    yield from layouts_in(str(path.relative_to(TOP)), path.read_text(encoding="utf-8"))
     file, text = str(path.relative_to(TOP)), path.read_text(encoding="utf-8")
     if path.suffix == ".rt":
         yield from code_rows(file, text)
@@ -186,9 +224,13 @@ def layout_rows() -> Iterator[Row]:
             yield Row(file, table, it.name, it.at, it.width, it.bit, *bits)
     for table, checks in CHECKS.items():
         yield from (Row(file, table, name, 0, 8, bit, low, count) for bit, low, count, name in checks)
+    yield from (Row(file, "section lengths", name, length) for name, layout, length in layouts.NAMES.values() if layout is not layouts.LINUX_DMESG)
+    yield from (Row("tools/apei/names.py", "severities", name, number) for number, name in enumerate(names.SEVERITIES))
 
 
-def all_rows() -> Iterator[Row]:
-    for path in sorted([*TOP.glob("crates/*/src/*.rt"), *TOP.glob("crates/*/specs/*.antt")]):
-        yield from rows_of(path)
-    yield from layout_rows()
+def all_rows() -> list[Row]:
+    """All rows; a table whose fields have no validation bits has no place of them."""
+    paths = sorted([*TOP.glob("crates/*/src/*.rt"), *TOP.glob("crates/*/specs/*.antt")])
+    rows = [*(row for path in paths for row in rows_of(path)), *layout_rows()]
+    with_bits = {row.table for row in rows if row.bit is not None}
+    return [row for row in rows if row.name != VALIDITY or row.width is not None or row.table in with_bits]
