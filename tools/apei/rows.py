@@ -5,8 +5,8 @@ from collections.abc import Iterator
 from dataclasses import dataclass
 from pathlib import Path
 
-from apei import TOP, names
-from apei.show import layouts
+from apei import TOP, device, frames, hubs, items, names, tables
+from apei.show import compare, layouts
 
 NUMBER = r"(?:0x[0-9a-fA-F]+|[\d_]+)"
 
@@ -154,14 +154,31 @@ def layouts_in(file: str, text: str) -> Iterator[Row]:
 
 
 def rows_of(path: Path) -> Iterator[Row]:
-    yield from layouts_in(str(path.relative_to(TOP)), path.read_text(encoding="utf-8"))
     file, text = str(path.relative_to(TOP)), path.read_text(encoding="utf-8")
+    yield from layouts_in(file, text)
+    if "length_with_banks" in text:
+        yield from source_rows(file, text)
     if path.suffix == ".rt":
         yield from code_rows(file, text)
         yield from code_numbers(file, text)
     else:
         yield from defined_rows(file, text)
         yield from defined_numbers(file, text)
+
+
+# The lengths of error sources by their types, and where the number of their banks stands, as code and definitions say them.
+LENGTH = re.compile(r"(?:\b(\d+)|kind == (\d+)) (?:=>|then) Ok(?: (\d+)|\((\d+)\))")
+BANKED = re.compile(r"((?:\d+(?: \| )?)+) => length_with_banks\(\w+, \w+, (\d+), (\d+)\)|if ([^\n]*) then length_with_banks at bytes (\d+) (\d+)")
+
+
+def source_rows(file: str, text: str) -> Iterator[Row]:
+    """The lengths of error sources, in a file that has them."""
+    for found in LENGTH.finditer(text):
+        yield Row(file, "source lengths", found[1] or found[2], int(found[3] or found[4]))
+    for found in BANKED.finditer(text):
+        for kind in re.findall(r"\d+", found[1] or found[4]):
+            yield Row(file, "source lengths", kind, int(found[2] or found[5]))
+            yield Row(file, "bank counts", kind, int(found[3] or found[6]), 1)
 
 
 # The tools' layouts by the tables of the crates that have the same fields.
@@ -228,9 +245,22 @@ def layout_rows() -> Iterator[Row]:
     yield from (Row("tools/apei/names.py", "severities", name, number) for number, name in enumerate(names.SEVERITIES))
 
 
+def tool_rows() -> Iterator[Row]:
+    """The numbers of the standards that the models have."""
+    for module in (device, frames, hubs, tables):
+        file = f"tools/{module.__name__.replace('.', '/')}.py"
+        yield from (Row(file, file, name, value) for name, value in vars(module).items() if name.isupper() and isinstance(value, int))
+    lengths = {**{kind: length for kind, length in items.FIXED.items()}, **{kind: length for kind, (length, _) in items.BANKED.items()}}
+    of_layouts = {kind: length for kind, (length, _) in layouts.SOURCES.items()}
+    for file, of in (("tools/apei/items.py", lengths), ("tools/apei/show/layouts.py", of_layouts)):
+        yield from (Row(file, "source lengths", str(kind), length) for kind, length in of.items())
+    yield from (Row("tools/apei/show/compare.py", "address_spaces", name, number) for number, name in compare.SPACES.items())
+    yield from (Row("tools/apei/items.py", "bank counts", str(kind), at, 1) for kind, (_, at) in items.BANKED.items())
+
+
 def all_rows() -> list[Row]:
     """All rows; a table whose fields have no validation bits has no place of them."""
     paths = sorted([*TOP.glob("crates/*/src/*.rt"), *TOP.glob("crates/*/specs/*.antt")])
-    rows = [*(row for path in paths for row in rows_of(path)), *layout_rows()]
+    rows = [*(row for path in paths for row in rows_of(path)), *layout_rows(), *tool_rows()]
     with_bits = {row.table for row in rows if row.bit is not None}
     return [row for row in rows if row.name != VALIDITY or row.width is not None or row.table in with_bits]

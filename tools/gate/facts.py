@@ -165,12 +165,19 @@ def others_of(row: Row) -> Iterator[Row]:
             yield replace(row, **{word: number + 1})
 
 
+def names_in(rows: list[Row], folder: str) -> set[tuple[str, str]]:
+    """The rows of the tables of a folder, without lists of registers, which definitions write otherwise."""
+    return {(row.table, row.name) for row in rows if row.file.startswith(folder) and not row.table.startswith(("aarch", "crates/"))}
+
+
 def look_at_rows(tally: Tally) -> None:
-    """Each row says what its foreign facts say, and another would not."""
-    rows = list(all_rows())
+    """Each row says what its foreign facts say, and another would not. None is overlooked: code and definitions have the same ones."""
+    rows = all_rows()
     for row in rows:
         tally.add(foreign.faults_of(row))
     tally.add(foreign.unknown(rows))
+    only = names_in(rows, "crates/field_lines/src/") ^ names_in(rows, "crates/field_lines/specs/")
+    tally.expect(not only, f"not both code and definitions of field_lines have {sorted(only)[:5]}")
     for other in (other for row in rows for other in others_of(row)):
         tally.expect(bool(foreign.faults_of(other)), f"this row would not be found: {other}")
 
