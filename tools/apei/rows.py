@@ -129,6 +129,24 @@ DEFINED_PARTS = re.compile(r"^\w+ pub (\w+)_groups : [^\n]*\n\1_groups =\n(.*?)(
 DEFINED_PART = re.compile(r'group \(codes "([^"]*)"\) (\d+) (\d+) (\d+) (\d+) \((?:fixed (\d+)|told (\d+) (\d+) (\d+))\) (\d+)')
 
 
+# What stands inside such a structure: by which number, and where it begins.
+CODE_INSIDE = re.compile(
+    r"bit: (?:None|Some\((\d+)\)),\s+key: Key::(?:Number \{\s+at: \d+,\s+width: \d+,\s+number: (\d+),|Guid \{\s+at: \d+,\s+text: [^\n]*)\s+\},\s+at: (\d+),"
+    r"\s+content: Content::(?:Fields\(&(\w+)\)|Registers \{\s+width: \d+,\s+names: &(\w+),)"
+)
+DEFINED_INSIDE = re.compile(
+    r'inside \(codes "[^"]*"\) (?:None|\(Some (\d+)\)) \((?:number_sign \d+ \d+ (\d+)|guid_sign \d+ \(codes "[^"]*"\))\) (\d+) (\w+)'
+)
+
+
+def inside_rows(file: str, text: str) -> Iterator[Row]:
+    for bit, key, at, fields, *names_ in (CODE_INSIDE if file.endswith(".rt") else DEFINED_INSIDE).findall(text):
+        name = (fields or names_[0]).lower().removesuffix("_fields")
+        yield Row(file, "inside: place", name, int(at), 0, number(bit or None))
+        if key:
+            yield Row(file, "inside: number", name, int(key))
+
+
 def part_rows(file: str, table: str, found: tuple[str, ...]) -> Iterator[Row]:
     """The numbers of structures that repeat."""
     name = found[0]
@@ -156,6 +174,7 @@ def layouts_in(file: str, text: str) -> Iterator[Row]:
 def rows_of(path: Path) -> Iterator[Row]:
     file, text = str(path.relative_to(TOP)), path.read_text(encoding="utf-8")
     yield from layouts_in(file, text)
+    yield from inside_rows(file, text)
     if "length_with_banks" in text:
         yield from source_rows(file, text)
     if path.suffix == ".rt":

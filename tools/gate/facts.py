@@ -87,9 +87,10 @@ MADE_UP = {
     "00112233-4455-6677-8899-aabbccddeeff",
     "03020100-0504-0706-0809-0a0b0c0d0e0f",
 }
-# What stands between a GUID and its name, behind it or in front of it.
+# What stands between a GUID and its name, behind it or in front of it; and in a row of what stands inside a structure, whose name is further in front.
 BEHIND = re.compile(r'"?\)?,?\s*(?:name: |kind: \w+::|codes |: \(|then Some \(codes )*"?([A-Za-z][\w/, -]*)')
 BEFORE = re.compile(r'(?<!, )\b(\w+)(?:: [^=\n]*)?\s*=\s*(?:codes )?[b"\'\[\s]*$')
+INSIDE = re.compile(r'(?:name: |inside \(codes )"([^"]*)"[^"]*?(?:text: b|guid_sign \d+ \(codes )"$')
 CODE = {".rt", ".antt", ".py", ".c", ".h"}
 
 
@@ -102,7 +103,8 @@ BY_LETTERS = {letters(name): foreign for name, foreign in NAMES.items()}
 
 def name_beside(text: str, found: Found) -> str | None:
     """The name that a text gives a GUID, where it is one that has to be known."""
-    name = BEFORE.search(text[max(0, found.start - 90) : found.start]) or (BEHIND.match(text[found.end : found.end + 90]) if found.form == "text" else None)
+    before = text[max(0, found.start - 150) : found.start]
+    name = INSIDE.search(before) or BEFORE.search(before) or (BEHIND.match(text[found.end : found.end + 90]) if found.form == "text" else None)
     return name[1] if name and letters(name[1]) in BY_LETTERS else None
 
 
@@ -148,7 +150,7 @@ def look_at_guids(tally: Tally) -> None:
         for line, guid, fault in faults_in(text):
             tally.expect(fault is None, f"{path.relative_to(TOP)}:{line}: {guid} {fault}")
         if path.suffix in CODE and path.name != "facts.py":
-            forms.update({found.form: (path, text, found) for found in guids_in(text) if found.guid not in MADE_UP})
+            forms.update({found.form: (path, text, found) for found in guids_in(text) if found.guid in facts().guids})
     for form in FORMS:
         path, text, found = forms[form]
         faults = [fault for _, _, fault in faults_in(exchanged(text, found)) if fault]
