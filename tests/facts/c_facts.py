@@ -47,6 +47,11 @@ def guids(text: str) -> Iterator[str]:
         yield f"guid {found[1] or found[3]} {digits[:8]}-{digits[8:12]}-{digits[12:16]}-{digits[16:20]}-{digits[20:]}"
 
 
+def signature(found: re.Match[str]) -> str:
+    """The number that letters are, the first one lowest."""
+    return str(int.from_bytes("".join(re.findall("'(.)'", found[1])).encode(), "little"))
+
+
 class Numbers:
     """The macros of some sources, by name: those whose value is a number."""
 
@@ -60,6 +65,7 @@ class Numbers:
         body = re.sub(r"\bBIT(?:_ULL)?\s*\(([^()]*)\)", r"(1 << (\1))", body)
         body = re.sub(r"\bBIT(\d+)\b", r"(1 << \1)", body)
         body = re.sub(r"\bGENMASK(?:_ULL)?\s*\(([^(),]*),([^(),]*)\)", r"((2 << (\1)) - (1 << (\2)))", body)
+        body = re.sub(r"\bSIGNATURE_(?:16|32|64)\s*\(([^()]*)\)", signature, body)
         for name in set(re.findall(r"\b[A-Za-z_]\w*\b", body)):
             inner = self.bodies.get(name)
             value = self.value(inner, depth + 1) if inner is not None and depth < 9 else None

@@ -116,7 +116,7 @@ def unknown(rows: list[Row]) -> list[str]:
         f"tests/facts/names.txt names {table}, {name}, which no source has"
         for table, of in tables().items()
         for name in of.rows
-        if (id(of), name) not in have and not table.startswith("crates/")
+        if (id(of), name) not in have and (table.startswith(FORMATS) or not table.startswith("crates/"))
     ]
 
 

@@ -8,7 +8,7 @@ from pathlib import Path
 from apei import TOP, device, frames, hubs, items, names, tables
 from apei.show import compare, layouts
 
-NUMBER = r"(?:0x[0-9a-fA-F]+|[\d_]+)"
+NUMBER = r"(?:0x[0-9a-fA-F_]+|[\d_]+)"
 
 
 @dataclass(frozen=True)
