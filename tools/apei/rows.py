@@ -264,6 +264,30 @@ def layout_rows() -> Iterator[Row]:
     yield from (Row("tools/apei/names.py", "severities", name, number) for number, name in enumerate(names.SEVERITIES))
 
 
+# Tables of docs/FORMATS.md: fields with their sizes and places, and codes with their names.
+PLACES = re.compile(r"\d+ at \d+(?:, \d+ at \d+)*")
+CODE_OF = re.compile(r"\| (0x[0-9A-F]+) \| ([A-Z][A-Z0-9_]+) (?=\|)")
+
+
+def document_rows() -> Iterator[Row]:
+    """A name before a colon or a comma is a field's; several names in a row are those of several fields."""
+    file, section, part, heads = "docs/FORMATS.md", "", "", list[str]()
+    for line in (TOP / file).read_text(encoding="utf-8").splitlines():
+        cells = [it.strip() for it in line.split("|")[1:-1]]
+        if line.startswith("#"):
+            section, part = (line[3:] if line.startswith("## ") else section), line.lstrip("# ")
+        if not cells:
+            heads = []
+        heads = heads or cells
+        for head, name, places in zip(heads, cells, cells[1:]):
+            if PLACES.fullmatch(places):
+                found = re.findall(r"(\d+) at (\d+)", places)
+                names_ = name.split(", ") if len(found) > 1 else [re.split("[:,]", name)[0]]
+                yield from (Row(file, f"{section}: {head}", one, int(at), int(width)) for one, (width, at) in zip(names_, found))
+        for code, name in CODE_OF.findall(line):
+            yield Row(file, "instructions" if part == "Instructions" else "actions", name, int(code, 16))
+
+
 def tool_rows() -> Iterator[Row]:
     """The numbers of the standards that the models have."""
     for module in (device, frames, hubs, tables):
@@ -280,6 +304,6 @@ def tool_rows() -> Iterator[Row]:
 def all_rows() -> list[Row]:
     """All rows; a table whose fields have no validation bits has no place of them."""
     paths = sorted([*TOP.glob("crates/*/src/*.rt"), *TOP.glob("crates/*/specs/*.antt")])
-    rows = [*(row for path in paths for row in rows_of(path)), *layout_rows(), *tool_rows()]
+    rows = [*(row for path in paths for row in rows_of(path)), *layout_rows(), *tool_rows(), *document_rows()]
     with_bits = {row.table for row in rows if row.bit is not None}
     return [row for row in rows if row.name != VALIDITY or row.width is not None or row.table in with_bits]
