@@ -3,6 +3,7 @@ pub mod Rules
 pub mod RequestLemmas
 pub mod SequenceLemmas
 mod StageLemmas
+mod PositionLemmas
 pub mod CommandLemmas
 pub mod AttachLemmas
 pub mod CauseLemmas

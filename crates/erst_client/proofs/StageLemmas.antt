@@ -261,3 +261,46 @@ pub weight_falls : {W : Type 0} (allows : W → Call → W → Type 0) (entries 
     weight next left < weight stage before
 weight_falls allows entries command timings stage request before from answer left now next is runs next_is =
     rw next_is (rw runs.left_is (weight_after allows entries command timings stage before from answer runs.after now (run_of allows entries command stage request before from answer runs.after now is runs.performs)))
+
+-- how many runs follow at most before a wait or the end
+abbrev pub run_rank : Stage → ℕ
+run_rank (Waiting longer) = 0
+run_rank stage = stage_rank stage
+
+run_checked : (timings : Option (ℕ × ℕ)) (waited number : ℕ) → run_rank (if number == 0 then Judging else busy timings waited) < 3
+run_checked None waited number = elim (number == 0) as (λ (b : Bool). run_rank (if b then Judging else Waiting waited) < 3) [ true ↦ omega arith | false ↦ omega arith ]
+run_checked (Some known) waited number =
+    elim (number == 0) as (λ (b : Bool). run_rank (if b then Judging else (if nat_le (waited + 10) known.0 then Waiting (waited + 10) else Ending (Err (Late waited)))) < 3) [
+      | true ↦ omega arith
+      | false ↦ elim (nat_le (waited + 10) known.0) as (λ (b : Bool). run_rank (if b then Waiting (waited + 10) else Ending (Err (Late waited))) < 3) [ true ↦ omega arith | false ↦ omega arith ]
+    ]
+
+run_asked : (command : Command) (part : Part) → run_rank (asked (next_part command part)) < run_rank (Requesting part)
+run_asked Write Begin = omega arith
+run_asked (Read id) Begin = omega arith
+run_asked (Clear id) Begin = omega arith
+run_asked Dummy Begin = omega arith
+run_asked Write Offset = omega arith
+run_asked (Read id) Offset = omega arith
+run_asked (Clear id) Offset = omega arith
+run_asked Dummy Offset = omega arith
+run_asked command Identifier = omega arith
+run_asked command Execute = omega arith
+
+run_turned : (command : Command) (timings : Option (ℕ × ℕ)) (stage : Stage) (request : Request) (answer : Result ℕ RunStop) → request_for command stage ≡ Some request →
+    run_rank (turned command timings stage answer) < run_rank stage
+run_turned command timings (Requesting part) request (Ok n) is = run_asked command part
+run_turned command timings (Requesting part) request (Err stop) is = omega (arith, weight_requesting part)
+run_turned command timings (Checking waited) request (Ok n) is = run_checked timings waited n
+run_turned command timings (Checking waited) request (Err stop) is = omega arith
+run_turned command timings (Waiting longer) request answer is = absurd (none-some request is)
+run_turned command timings Judging request (Ok n) is = omega arith
+run_turned command timings Judging request (Err stop) is = omega arith
+run_turned command timings (Ending outcome) request (Ok n) is = omega arith
+run_turned command timings (Ending (Ok done)) request (Err stop) is = omega arith
+run_turned command timings (Ending (Err error)) request (Err stop) is = omega arith
+run_turned command timings (Done result) request answer is = absurd (none-some request is)
+
+pub run_falls : (command : Command) (timings : Option (ℕ × ℕ)) (stage : Stage) (request : Request) (answer : Result ℕ RunStop) (next : Stage) → request_for command stage ≡ Some request →
+    next ≡ turned command timings stage answer → run_rank next < run_rank stage
+run_falls command timings stage request answer next is next_is = rw next_is (run_turned command timings stage request answer is)

@@ -7,4 +7,5 @@ pub mod Causes
 pub mod Waiting
 pub mod Stages
 pub mod Reaching
+pub mod Positions
 pub mod Steps

@@ -6,9 +6,14 @@ mod attaching;
 mod client;
 mod commands;
 mod errors;
+mod laws;
+mod positions;
 mod requests;
 mod sequences;
 mod stages;
 
 pub use client::Client;
 pub use errors::{AttachError, ClientError};
+pub use laws::a_told_command_is_a_sequence;
+pub use positions::Position;
+pub use stages::{Command, Stage};

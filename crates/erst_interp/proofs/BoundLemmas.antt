@@ -45,7 +45,7 @@ rank_gone task to =
     elim (nat_lt to task.len) as (λ (b : Bool). rank (if b then Done (record (next task.at) { place = to }) else Stopped (GotoOutside task.at.place to)) ≤ 3)
     [ true ↦ omega arith | false ↦ omega arith ]
 
-rank_begins : (task : Task) (progress : Progress) → Begins task progress → rank progress ≤ 3
+pub rank_begins : (task : Task) (progress : Progress) → Begins task progress → rank progress ≤ 3
 rank_begins task progress begins = elim begins as (λ progress begins. rank progress ≤ 3) [
   | IsUnknown none ↦ omega arith
   | IsDone d has ↦ omega arith
@@ -103,7 +103,7 @@ pub rank_falls : (task : Task) (awaited : Awaited) (left : ℕ) (answer : Result
 rank_falls task awaited left answer progress further progress_is is =
     subst (λ (p : Progress). rank p < awaited_rank awaited) is (subst (λ (p : Progress). rank p < awaited_rank awaited) (sym progress_is) (nears task awaited left answer).fewer)
 
-bound_state : (task : Task) (progress : Progress) (left : ℕ) → bound (state_of task progress) left ≡ 4 * left + rank progress
+pub bound_state : (task : Task) (progress : Progress) (left : ℕ) → bound (state_of task progress) left ≡ 4 * left + rank progress
 bound_state task (Done d) left = omega arith
 bound_state task (Awaits awaited) left = refl
 bound_state task (Stopped stop) left = omega arith

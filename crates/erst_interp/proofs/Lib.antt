@@ -3,8 +3,8 @@ pub mod Rules
 mod WorkLemmas
 mod Walking
 mod ProgressLemmas
-mod ToldLemmas
-mod BoundLemmas
+pub mod ToldLemmas
+pub mod BoundLemmas
 pub mod Consequences
 pub mod StepLemmas
 pub mod StraightLemmas

@@ -55,10 +55,7 @@ impl Runner {
     pub fn demand(&self) -> Option<Demand>
         ensures { result ≡ demanded self.now.state }
     {
-        match self.state {
-            RunState::Awaiting(task, awaited) => Some(awaited.demand(&task)),
-            _ => None,
-        }
+        demanded(&self.state)
     }
 
     /// Takes the answer of the access that the run waits for.
@@ -83,7 +80,7 @@ impl Runner {
 }
 
 /// Where a run begins.
-fn first_state(program: &Program<'_>) -> RunState
+pub fn first_state(program: &Program<'_>) -> RunState
     ensures first { result ≡ first_state program.now }
     ensures sound { is_sound_state result ≡ true }
 {
@@ -99,7 +96,7 @@ fn first_state(program: &Program<'_>) -> RunState
 
 /// Where a run comes to without an access.
 #[tactic(auto, using(crate::proofs::Rules::comings))]
-fn settled(program: &Program<'_>, given: u64, first: RunState, budget: &mut Budget) -> RunState
+pub fn settled(program: &Program<'_>, given: u64, first: RunState, budget: &mut Budget) -> RunState
     requires { is_sound_state first ≡ true }
     ensures comes { Comes program.now given first budget.old result budget.new }
     ensures settled { is_settled result ≡ true }
@@ -116,8 +113,18 @@ fn settled(program: &Program<'_>, given: u64, first: RunState, budget: &mut Budg
     state
 }
 
+/// The access that a run waits for.
+pub fn demanded(state: &RunState) -> Option<Demand>
+    ensures { result ≡ demanded state.now }
+{
+    match *state {
+        RunState::Awaiting(task, awaited) => Some(awaited.demand(&task)),
+        _ => None,
+    }
+}
+
 /// Where a run stands once its access was answered.
-fn answered(state: RunState, budget: &mut Budget, answer: Result<u64, SpaceFault>) -> RunState
+pub fn answered(state: RunState, budget: &mut Budget, answer: Result<u64, SpaceFault>) -> RunState
     requires { is_sound_state state ≡ true }
     ensures state { result ≡ (answered state budget.old answer).0 }
     ensures left { budget.new ≡ (answered state budget.old answer).1 }

@@ -1,0 +1,34 @@
+// Laws on commands: the functions do nothing, and their clauses are the laws.
+ghost use Rattle.std.specs.Prelude.{◌≡◌, ℕ, List, Option, Some, Result};
+ghost use Rattle.apei_space.specs.declared.faults.SpaceFault.{SpaceFault};
+ghost use Rattle.erst_entries.specs.declared.entries.Entry.{Entry};
+ghost use Rattle.erst_client.specs.declared.errors.ClientError.{ClientError};
+ghost use Rattle.erst_client.specs.declared.positions.Position.{Position};
+ghost use Rattle.erst_client.specs.declared.stages.Command.{Command};
+ghost use Rattle.erst_client.specs.declared.stages.Part.TheVariants.{Begin};
+ghost use Rattle.erst_client.specs.declared.stages.Stage.TheVariants.{Requesting};
+ghost use Rattle.erst_client.specs.Sequences.{Sequence};
+ghost use Rattle.erst_client.specs.Stages.{requests_of};
+ghost use Rattle.erst_client.specs.Positions.{entered, answered_at, result_at, Moves, MadeAt, StandsAt};
+
+use apei_space::Space;
+
+/// A command that tells its accesses is a sequence over whatever space answers them: a `Position` stands where the command
+/// begins, what it does without an access keeps it on the sequence, and so does each answer that the space may give to the
+/// access that it tells. Once it has its result, it was the sequence.
+pub fn a_told_command_is_a_sequence<S: Space>()
+    ensures begins { (entries : List Entry) (command : Command) (timings : Option (ℕ × ℕ)) (budget : ℕ) (first : S.State)
+        → StandsAt S.allows entries command timings budget first (entered entries command (Requesting Begin) budget) first }
+    ensures moves { (entries : List Entry) (command : Command) (timings : Option (ℕ × ℕ)) (budget : ℕ) (first : S.State)
+        (old at : Position) (now : S.State) → Moves entries command timings old at
+        → StandsAt S.allows entries command timings budget first old now
+        → StandsAt S.allows entries command timings budget first at now }
+    ensures answered { (entries : List Entry) (command : Command) (timings : Option (ℕ × ℕ)) (budget : ℕ) (first : S.State)
+        (at : Position) (now : S.State) (answer : Result ℕ SpaceFault) (last : S.State)
+        → StandsAt S.allows entries command timings budget first at now → MadeAt S.allows timings at now answer last
+        → StandsAt S.allows entries command timings budget first (answered_at entries command at answer) last }
+    ensures ends { (entries : List Entry) (command : Command) (timings : Option (ℕ × ℕ)) (budget : ℕ) (first : S.State)
+        (at : Position) (now : S.State) (result : Result (Unit {0}) ClientError) → result_at at.stage ≡ Some result
+        → StandsAt S.allows entries command timings budget first at now
+        → Sequence S.allows entries timings (requests_of command) budget first result at.kept now }
+{}
