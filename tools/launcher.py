@@ -21,6 +21,9 @@ import sys
 import threading
 from typing import Any, NamedTuple, Optional
 
+import streams
+from streams import write_all
+
 TOP = os.path.dirname(os.path.dirname(os.path.realpath(__file__)))
 # As much of an input as a program reads: 16 MiB and the longest line, and what its reader takes at once.
 KEPT = (1 << 24) + (1 << 20)
@@ -46,7 +49,7 @@ class Program(NamedTuple):
         return os.path.join(TOP, "tools", "help" + self.name.removeprefix("apei") + ".txt")
 
     def say(self, text: str) -> None:
-        print(f"{self.name}: {text}", file=sys.stderr, flush=True)
+        streams.say(self.name, text)
 
 
 def text_in(path: str) -> str:
@@ -109,6 +112,9 @@ def build(program: Program) -> tuple[int, bool]:
     """Builds the program where it has to be: a status, and whether its sources are newer and it could not be."""
     is_built = os.access(program.path, os.X_OK)
     if not os.path.exists(os.path.join(TOP, "crates.txt")):
+        if not is_built:
+            why = "it may not be run" if os.path.exists(program.path) else "it is not there"
+            program.say(f"{program.path}: {why}: ./install puts it there")
         return (0 if is_built else NOT_BUILT), False
     if is_built and not has_newer_sources(program):
         return 0, False
@@ -138,7 +144,7 @@ def build_all(crates: list[str]) -> int:
     status = child[0].wait()
     for number, before in kept.items():
         signal.signal(number, before)
-    return end_as(-taken[0]) if taken else status
+    return streams.end_by(taken[0]) if taken else status
 
 
 class Input:
@@ -221,14 +227,6 @@ def run(words: list[str], given: Input) -> Ended:
     return Ended(started.wait(), bytes(said))
 
 
-def write_all(sink: int, data: bytes) -> None:
-    try:
-        while data:
-            data = data[os.write(sink, data) :]
-    except OSError:
-        pass
-
-
 def with_commas(words: list[str]) -> list[str]:
     """The words of apei, with a | in place of each comma of --show."""
     out: list[str] = []
@@ -305,13 +303,15 @@ def writes_to_terminal(words: list[str]) -> bool:
     return is_record and os.isatty(1)
 
 
-def end_as(status: int) -> int:
-    """Ends as the program did: by the same signal where it was one."""
-    if status >= 0:
-        return status
-    signal.signal(-status, signal.SIG_DFL)
-    os.kill(os.getpid(), -status)
-    return 128 - status
+def told_to_end(program: Program, words: list[str], number: int) -> str:
+    """A sentence on a run that a signal ended."""
+    from words import read
+
+    line = read(program.name, words)
+    what = "interrupted" if number == signal.SIGINT else f"ended by the signal {signal.Signals(number).name}"
+    if line.job == "play":
+        return f"{what}: the lines that were answered were played, and {line.options.get('--image')} has their records"
+    return what
 
 
 def launch(program: Program, words: list[str]) -> int:
@@ -334,25 +334,24 @@ def launch(program: Program, words: list[str]) -> int:
     ended = run([program.path, *words], given)
     if is_old:
         program.say("the sources are newer than the program, which was run as it is: there is no toolchain here to build it")
+    if ended.status < 0:
+        program.say(told_to_end(program, words, -ended.status))
+        return streams.end_by(-ended.status)
     if ended.status > 0:
         from explain import explain
 
         for line in explain(program.name, words, ended.status, ended.said.decode(errors="replace"), given.text):
             program.say(line)
-    return end_as(ended.status)
+    return ended.status
 
 
 def main() -> int:
-    if len(sys.argv) < 2:
-        print("usage: tools/launch NAME WORD..", file=sys.stderr)
-        return 1
+    if len(sys.argv) < 2 or sys.argv[1:] == ["--build"]:
+        raise streams.Failed(1, "usage: tools/launch NAME WORD.. | tools/launch --build NAME")
     if sys.argv[1] == "--build":
         return build(Program(sys.argv[2]))[0]
-    try:
-        return launch(Program(sys.argv[1]), sys.argv[2:])
-    except BrokenPipeError:
-        return 4
+    return launch(Program(sys.argv[1]), sys.argv[2:])
 
 
-if __name__ == "__main__":
-    sys.exit(main())
+def start() -> None:
+    streams.end(next((it for it in sys.argv[1:] if it != "--build"), "launch"), main)

@@ -61,7 +61,7 @@ class Builds(Tally):
         shutil.copy2(TOP / "HANDLES", folder)
         (folder / "crates.txt").write_text(CRATES)
         (folder / "tools").mkdir()
-        for name in ("build", "first"):
+        for name in ("build", "build.py", "first", "python", "start.py", "streams.py"):
             shutil.copy2(TOP / "tools" / name, folder / "tools")
         shutil.copytree(TOP / "tools" / "apei", folder / "tools" / "apei", ignore=shutil.ignore_patterns("__pycache__"))
         for name, text in (("low/src/lib.rt", LOW), ("high/src/lib.rt", HIGH), ("last/src/main.rt", LAST)):
