@@ -229,12 +229,18 @@ def why_not_opened(image: str) -> Optional[str]:
 def of_geometry(line: Line, numbers: list[int]) -> Iterator[str]:
     sector, per_slot, slots, size = numbers
     if size == 0:
-        yield which_bound(sector, per_slot, slots)
+        yield which_bound(sector, per_slot, slots) or is_empty(line.options.get("--image"))
         return
     yield f"the file has {size} bytes, and this geometry {sector * per_slot * slots}: {what_fits(line.options.get('--image'), sector, per_slot, size)}"
 
 
-def which_bound(sector: int, per_slot: int, slots: int) -> str:
+def is_empty(image: Optional[str]) -> str:
+    """What is said of a file without a byte: the program says no more of it than of a geometry outside its limits."""
+    return f"{image} is empty, and a flash is not: play makes the file where there is none"
+
+
+def which_bound(sector: int, per_slot: int, slots: int) -> Optional[str]:
+    """The limit that a geometry is outside of. Within these no flash has more than 64 MiB."""
     if sector not in [256 << bit for bit in range(8)]:
         return f"--sector={sector}: a sector has a power of two from 256 to 32768 bytes"
     if not 2 <= per_slot <= 16:
@@ -243,7 +249,7 @@ def which_bound(sector: int, per_slot: int, slots: int) -> str:
         return f"a slot of {per_slot} sectors of {sector} has {sector * per_slot} bytes, and room for 65536 is the most"
     if not 2 <= slots <= 1024:
         return f"--slots={slots}: there are 2 to 1024 slots"
-    return f"{slots} slots of {per_slot} sectors of {sector} have {sector * per_slot * slots} bytes, and 67108864 (64 MiB) are the most"
+    return None
 
 
 def what_fits(image: Optional[str], sector: int, per_slot: int, size: int) -> str:
@@ -252,6 +258,8 @@ def what_fits(image: Optional[str], sector: int, per_slot: int, size: int) -> st
     if seems:
         return (f"heads stand where slots of {seems['per_slot']} sectors of {seems['sector']} begin, and "
                 f"--sector={seems['sector']} --per-slot={seems['per_slot']} --slots={seems['slots']} would fit")
+    if size == 0:
+        return f"{image} is empty"
     slots, rest = divmod(size, sector * per_slot)
     if rest == 0 and 2 <= slots <= 1024:
         return f"--slots={slots} would fit"
@@ -345,7 +353,7 @@ def why_look_fails(image: str) -> Optional[str]:
 def look_geometry(line: Line, image: Optional[str], numbers: list[str]) -> Iterator[str]:
     given = [int(line.options.get(name) or default) for name, default in (("--sector", 4096), ("--per-slot", 2), ("--slots", 32))]
     if len(numbers) < 2:
-        yield which_bound(*given)
+        yield which_bound(*given) or "the geometry is outside its limits"
     elif is_medium(image):
         yield f"its first sector says that it is a medium of {numbers[1]} bytes: it was cut off, or more stands behind it"
     else:

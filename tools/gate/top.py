@@ -60,6 +60,9 @@ SAID: list[tuple[str, bytes, int, list[str]]] = [
     ("apei sim --fail-read=0", b"", 5,
      ["apei: flash failed", "apei: --fail-read=0 made the flash fail as the machine was booted, reset or given power"]),
     ("apei sim --slots=1", b"", 6, ["apei: bad geometry 4096 2 1 0", "apei: --slots=1: there are 2 to 1024 slots"]),
+    ("apei play --image=empty", b"", 6,
+     ["apei: bad geometry 4096 2 32 0", "apei: empty is empty, and a flash is not: play makes the file where there is none"]),
+    ("apei-look empty", b"", 6, ["apei-look: the image has 0 bytes, and the geometry 262144", "apei-look: empty is empty"]),
     ("apei play --image=short", b"", 6,
      ["apei: bad geometry 4096 2 32 65536", "apei: the file has 65536 bytes, and this geometry 262144: --slots=8 would fit"]),
     ("apei play --image=six --slots=16", b"", 6, ["apei: bad geometry 4096 2 16 262144",
@@ -112,6 +115,7 @@ class Runs(Tally):
         self.environment = {**os.environ, "PATH": f"{folder}/bin:{os.environ['PATH']}"}
         os.symlink("/none/x", folder / "nowhere")
         (folder / "short").write_bytes(b"\xff" * 65536)
+        (folder / "empty").write_bytes(b"")
         (folder / "random").write_bytes(bytes((at * 7 + at // 251) % 255 for at in range(Geometry().size)))
         # A first write whose first erase was torn.
         (folder / "torn").write_bytes(bytes(4096) + Geometry().erased[4096:])
