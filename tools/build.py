@@ -31,8 +31,9 @@ from types import FrameType
 from typing import Optional
 
 import streams
-from apei import TOP
+from apei import TOP, machine, turns
 from apei.crates import Depends, below, depends
+from apei.pace import Pace, beside_others, in_minutes
 from streams import Failed
 
 # What a proof may take at its most, in bytes.
@@ -43,8 +44,8 @@ SHOWN = 40
 # minutes. Lines of code count, and an eighth of those in specs and proofs: this fits the times best.
 LINES_A_MINUTE = 1_400, 3_200
 LEAST = 0.2
-# What part of the lines has to be proved before the time so far says how long is left.
-SAYS = 0.1
+# How often a build says how far it is where it has said nothing else, in seconds.
+SAYS_EVERY = 60.0
 # The parts of a crate that its proof reads.
 PARTS = "src", "specs", "proofs"
 ENDING = signal.SIGINT, signal.SIGTERM, signal.SIGHUP
@@ -91,12 +92,14 @@ def is_built(crate: str, of: Depends, toolchain: str) -> bool:
     return mark(crate).exists() and mark(crate).read_text() == built_of(crate, of, toolchain)
 
 
-def minutes(names: set[str], of: Depends) -> list[int]:
-    """How long a proof of these crates takes, about: the least and the most, in minutes."""
+def pace_of(names: set[str], of: Depends) -> Pace:
+    """How long a proof of these crates takes, about."""
     lines = sum(map(line_count, names))
-    chain = max(sum(it in names for it in below(name, of)) for name in names)
+    chain = max((sum(it in names for it in below(name, of)) for name in names), default=0)
     several = 4 / side_by_side()
-    return [math.ceil(max(lines / rate * several, LEAST * chain)) for rate in sorted(LINES_A_MINUTE, reverse=True)]
+    slow, quick = LINES_A_MINUTE
+    least, most = (max(lines / rate * several, LEAST * chain) for rate in (quick, slow))
+    return Pace(least, most, beside_others())
 
 
 def chains(names: Iterable[str], of: Depends) -> dict[str, float]:
@@ -115,9 +118,7 @@ def chains(names: Iterable[str], of: Depends) -> dict[str, float]:
 
 def side_by_side() -> int:
     """How many proofs may run at once: as many as there are processors, and memory that the system can give."""
-    lines = dict(line.split(":") for line in pathlib.Path("/proc/meminfo").read_text().splitlines())
-    memory = int(lines["MemAvailable"].split()[0]) << 10
-    return max(1, min(len(os.sched_getaffinity(0)), memory // ROOM))
+    return max(1, min(len(os.sched_getaffinity(0)), machine.free_memory() // ROOM))
 
 
 def link(old: str, new: str) -> None:
@@ -152,7 +153,9 @@ def put_back(room: pathlib.Path, name: str) -> None:
         return
     folder = os.open(crate, os.O_RDONLY)
     try:
-        fcntl.flock(folder, fcntl.LOCK_EX)
+        if not turns.is_taken(folder):
+            say(f"waiting for the proof of {name} in its own folder")
+            fcntl.flock(folder, fcntl.LOCK_EX)
         shutil.rmtree(crate / "out", ignore_errors=True)
         shutil.move(made, crate / "out")
     finally:
@@ -174,6 +177,8 @@ class Build:
         self.count = len(self.waiting)
         self.lines = {it: line_count(it) for it in self.waiting}
         self.lines_done, self.crates_done, self.started = 0.0, 0, time.monotonic()
+        self.pace = pace_of(self.waiting, self.of)
+        self.told, self.is_late = self.started, False
         self.chain = chains(self.waiting, self.of)
         self.workers = side_by_side()
         self.begun, self.done = 0, built
@@ -276,23 +281,48 @@ class Build:
         if mark(name).parent.exists():
             mark(name).write_text(built_of(name, self.of, self.toolchain))
 
+    @property
+    def part(self) -> float:
+        """What part of the lines is proved."""
+        return self.lines_done / sum(self.lines.values())
+
+    @property
+    def passed(self) -> float:
+        """How many minutes have passed."""
+        return (time.monotonic() - self.started) / 60
+
+    def left(self) -> str:
+        """How long is left, as the end of a sentence; those that wait for this build are told the same."""
+        left = self.pace.left(self.part, self.passed)
+        turns.Builder(os.getpid(), " and ".join(self.names), self.crates_done, self.count, left, time.time()).note()
+        self.told = time.monotonic()
+        return f", about {in_minutes(left)} left" if left is not None else ""
+
     def tell(self, name: str) -> None:
-        """Says that a crate is built, and how long is left."""
+        """Says that a crate is built."""
         self.lines_done += self.lines[name]
         self.crates_done += 1
-        part = self.lines_done / sum(self.lines.values())
-        left = math.ceil((time.monotonic() - self.started) / 60 * (1 - part) / part) if part else 0
-        says = f", about {left} minute{'s' if left != 1 else ''} left" if SAYS <= part < 1 else ""
-        say(f"built {name} ({self.crates_done} of {self.count}){says}")
+        say(f"built {name} ({self.crates_done} of {self.count}){self.left()}")
+
+    def tell_time(self) -> None:
+        """Says how far the build is, where it has said nothing for long."""
+        with self.turn:
+            if time.monotonic() < self.told + SAYS_EVERY or not self.waiting and not self.running:
+                return
+            late = ", which is more than was told" if self.pace.is_late(self.passed) and not self.is_late else ""
+            self.is_late = self.is_late or bool(late)
+            say(f"{in_minutes(math.ceil(self.passed))} passed{late}: {self.crates_done} of {self.count} crates are built{self.left()}")
 
     def announce(self) -> None:
-        """Says how long the build takes, about."""
+        """Says how long the build takes, about, and what the machine has too little of."""
         if self.waiting:
-            least, most = minutes(self.waiting, self.of)
             crates = "1 crate is" if self.count == 1 else f"{self.count} crates are"
-            about = f"{least} to {most} minutes" if least < most else "1 minute" if most == 1 else f"{most} minutes"
             are = "is" if len(self.names) == 1 else "are"
-            say(f"{' and '.join(self.names)} {are} not built yet: {crates} proved first, in about {about}, {self.workers} side by side")
+            names, told = " and ".join(self.names), self.pace.told()
+            for it in machine.wants():
+                say(it)
+            say(f"{names} {are} not built yet: {crates} proved first, {self.workers} side by side, in {told}")
+            self.left()
 
     def run(self) -> int:
         self.announce()
@@ -300,8 +330,10 @@ class Build:
         try:
             for it in workers:
                 it.start()
-            for it in workers:
-                it.join()
+            while any(it.is_alive() for it in workers):
+                for it in workers:
+                    it.join(SAYS_EVERY / 10)
+                self.tell_time()
         except KeyboardInterrupt:
             self.stop()
             for it in workers:
@@ -342,7 +374,7 @@ def main() -> int:
     # A second build waits, and finds what the first one proved.
     with open(TOP / "crates.txt") as lock, tempfile.TemporaryDirectory(prefix="apei-build-") as rooms:
         try:
-            fcntl.flock(lock, fcntl.LOCK_EX)
+            turns.take(lock, say)
             return Build(names, rooms).run()
         except KeyboardInterrupt:
             say("interrupted; the next start goes on from here")
