@@ -13,32 +13,25 @@ import stat
 from difflib import get_close_matches
 from typing import Any, Callable, Iterator, Optional
 
+from lines import LINES, LONGEST_LINE, Named, why_not_filled
 from words import GRAMMARS, Line, listed, read
 
 TextOf = Callable[[], Optional[bytes]]
-LONGEST_LINE = 140_000
+KEEPS = "sim keeps no records from run to run, so those of this one are gone: play --image=FILE keeps them in a file"
 LONGEST_INPUT = 1 << 24
-# How each line goes on behind its keyword, by the job that takes it.
-SCRIPT = {
-    "write": "HEX", "read": "NUM", "clear": "NUM", "count": "", "next": "", "dummy": "", "action": "CODE NUM",
-    "table": "HEX, own or shadow",
-    "error": "HEX", "turns": "LETTERS (F and R)", "bridge": "NUM", "heard": "", "peek": "NUM LEN", "fatal": "HEX", "bert": "",
-    "reset": "", "power": "",
-}
-CHECK = {name: "HEX" for name in ("erst", "hest", "bert", "record", "block")}
-HUB = {"hest": "HEX", "error": "I HEX", "turns": "PAIRS (a source from 0 to f, and F or R)", "heard": "I", "drop": "I AT"}
-LINES = {"sim": SCRIPT, "play": SCRIPT, "check": CHECK, "hub": HUB}
 MARKS = {b"\xef\xbb\xbf": "a byte order mark", b"\xff\xfe": "the mark of UTF-16", b"\xfe\xff": "the mark of UTF-16"}
 
 
-def explain(program: str, words: list[str], status: int, said: str, text_of: TextOf) -> list[str]:
-    """The lines that are added, without the program's name."""
+def explain(program: str, words: list[str], status: int, said: str, text_of: TextOf, files: dict[int, Named], by_hand: bool) -> list[str]:
+    """The lines that are added, without the program's name. `files` are those that lines of the input name; the input was typed where
+    `by_hand` says so."""
     if status == 1:
         return command_line(program, words)
     line = read(program, words) if program in GRAMMARS else Line()
     first = said.splitlines()[0] if said else ""
     if program == "apei":
-        return list(of_apei(line, status, first, text_of))
+        added = list(of_apei(line, status, first, text_of, files))
+        return [*added, KEEPS] if status == 2 and line.job == "sim" and by_hand else added
     if program == "apei-look":
         return list(of_look(line, status, first))
     if program == "apei-show" and status == 3:
@@ -54,9 +47,12 @@ def command_line(program: str, words: list[str]) -> list[str]:
     return [*([fault] if fault else []), f"./{program} --help says {what}"]
 
 
-def of_apei(line: Line, status: int, first: str, text_of: TextOf) -> Iterator[str]:
+def of_apei(line: Line, status: int, first: str, text_of: TextOf, files: dict[int, Named]) -> Iterator[str]:
     place = re.search(r"line (\d+)", first)
-    if status == 2 and place:
+    named = files.get(int(place[1])) if place and status in (2, 7) else None
+    if named and (named.why or status == 7):
+        yield why_not_filled(named)
+    elif status == 2 and place:
         yield of_line(line.job or "", int(place[1]), int(first.split()[-1]), text_of())
     elif status == 5:
         yield why_flash_failed(line)

@@ -3,7 +3,8 @@
 - --help, -h and --version are answered here, and built nothing for.
 - Where the program has not been built since the last change of the sources, it is proved and built first. Where it is built and there is no
   toolchain, it is run as it is.
-- `apei`: --show takes a comma for the | that a shell wants in quotes. `play` looks at its file first, by apei-look: a file that seems to be none
+- `apei`: --show takes a comma for the | that a shell wants in quotes. A line that names a file, as `write @FILE`, gets the digits of its bytes
+  (tools/lines.py). `play` looks at its file first, by apei-look: a file that seems to be none
   of the geometry, none of ours, or a library's medium ends the run with status 6 before anything is touched, but behind the word --force before
   the job.
 - `apei-look`: the bytes of a record are not written to a terminal, but behind the word --force.
@@ -22,6 +23,7 @@ import threading
 from typing import Any, NamedTuple, Optional
 
 import streams
+from lines import Filled, names_files
 from streams import write_all
 
 TOP = os.path.dirname(os.path.dirname(os.path.realpath(__file__)))
@@ -148,35 +150,53 @@ def build_all(crates: list[str]) -> int:
 
 
 class Input:
-    """Standard input, of which what the program may read is kept where it comes from a pipe, so that a line can be shown."""
+    """Standard input, of which what the program may read is kept where it comes through here, so that a line can be shown.
 
-    def __init__(self) -> None:
+    A terminal and a pipe come through here, and a file that names others. The program reads any other file itself."""
+
+    def __init__(self, program: Program, words: list[str]) -> None:
         self.kept = bytearray()
         self.start: Optional[int] = None
+        self.failed: Optional[OSError] = None
         try:
             mode = os.fstat(0).st_mode
         except OSError:
             mode = 0
-        self.is_pipe = stat.S_ISFIFO(mode) or stat.S_ISSOCK(mode)
+        self.by_hand = program.name == "apei" and stat.S_ISCHR(mode) and os.isatty(0)
+        self.comes_through = self.by_hand or stat.S_ISFIFO(mode) or stat.S_ISSOCK(mode)
+        self.filled = Filled(lambda: job_of(program, words), program.say)
         if stat.S_ISREG(mode):
             self.start = os.lseek(0, 0, os.SEEK_CUR)
+            self.comes_through = program.name == "apei" and names_files(self.text() or b"")
+        self.fills = program.name == "apei"
+
+    def read(self) -> bytes:
+        try:
+            return os.read(0, 1 << 16)
+        except OSError as error:
+            self.failed = error
+            return b""
 
     def pump(self, sink: int) -> None:
         """Gives the program what comes, as it comes."""
         try:
-            while data := os.read(0, 1 << 16):
-                if len(self.kept) < KEPT:
-                    self.kept += data
-                while data:
-                    data = data[os.write(sink, data) :]
+            while data := self.read():
+                self.give(sink, self.filled.take(data) if self.fills else data)
+            self.give(sink, self.filled.last())
         except OSError:
-            pass
+            pass  # The program has ended.
         finally:
             os.close(sink)
 
+    def give(self, sink: int, data: bytes) -> None:
+        if len(self.kept) < KEPT:
+            self.kept += data
+        while data:
+            data = data[os.write(sink, data) :]
+
     def text(self) -> Optional[bytes]:
         """What the program was given, as far as it reads; None where that is not known."""
-        if self.is_pipe:
+        if self.comes_through:
             return bytes(self.kept)
         if self.start is None:
             return None
@@ -184,6 +204,12 @@ class Input:
             return os.pread(0, KEPT, self.start)
         except OSError:
             return None
+
+
+def job_of(program: Program, words: list[str]) -> Optional[str]:
+    from words import read
+
+    return read(program.name, words).job
 
 
 class Ended(NamedTuple):
@@ -207,7 +233,7 @@ def run(words: list[str], given: Input) -> Ended:
     for number in PASSED_ON:
         if signal.getsignal(number) != signal.SIG_IGN:
             signal.signal(number, pass_on)
-    if given.is_pipe:
+    if given.comes_through:
         source, sink = os.pipe()
     else:
         source, sink = 0, -1
@@ -215,7 +241,7 @@ def run(words: list[str], given: Input) -> Ended:
     child.append(started)
     for early_one in early:
         started.send_signal(early_one)
-    if given.is_pipe:
+    if given.comes_through:
         os.close(source)
         threading.Thread(target=given.pump, args=(sink,), daemon=True).start()
     said = bytearray()
@@ -330,7 +356,7 @@ def launch(program: Program, words: list[str]) -> int:
     if program.name == "apei-look" and not is_forced and writes_to_terminal(words):
         program.say("the bytes of a record are not written to a terminal. Send them to a file or a pipe; --force writes them all the same.")
         return 4
-    given = Input()
+    given = Input(program, words)
     ended = run([program.path, *words], given)
     if is_old:
         program.say("the sources are newer than the program, which was run as it is: there is no toolchain here to build it")
@@ -340,8 +366,12 @@ def launch(program: Program, words: list[str]) -> int:
     if ended.status > 0:
         from explain import explain
 
-        for line in explain(program.name, words, ended.status, ended.said.decode(errors="replace"), given.text):
+        said = ended.said.decode(errors="replace")
+        for line in explain(program.name, words, ended.status, said, given.text, given.filled.files, given.by_hand):
             program.say(line)
+    if given.failed and ended.status == 0:
+        program.say(f"standard input: {given.failed.strerror}")
+        return streams.NOT_READ
     return ended.status
 
 
