@@ -13,32 +13,25 @@ import stat
 from difflib import get_close_matches
 from typing import Any, Callable, Iterator, Optional
 
+from lines import LINES, LONGEST_LINE, Named, why_not_filled
 from words import GRAMMARS, Line, listed, read
 
 TextOf = Callable[[], Optional[bytes]]
-LONGEST_LINE = 140_000
+KEEPS = "sim keeps no records from run to run, so those of this one are gone: play --image=FILE keeps them in a file"
 LONGEST_INPUT = 1 << 24
-# How each line goes on behind its keyword, by the job that takes it.
-SCRIPT = {
-    "write": "HEX", "read": "NUM", "clear": "NUM", "count": "", "next": "", "dummy": "", "action": "CODE NUM",
-    "table": "HEX, own or shadow",
-    "error": "HEX", "turns": "LETTERS (F and R)", "bridge": "NUM", "heard": "", "peek": "NUM LEN", "fatal": "HEX", "bert": "",
-    "reset": "", "power": "",
-}
-CHECK = {name: "HEX" for name in ("erst", "hest", "bert", "record", "block")}
-HUB = {"hest": "HEX", "error": "I HEX", "turns": "PAIRS (a source from 0 to f, and F or R)", "heard": "I", "drop": "I AT"}
-LINES = {"sim": SCRIPT, "play": SCRIPT, "check": CHECK, "hub": HUB}
 MARKS = {b"\xef\xbb\xbf": "a byte order mark", b"\xff\xfe": "the mark of UTF-16", b"\xfe\xff": "the mark of UTF-16"}
 
 
-def explain(program: str, words: list[str], status: int, said: str, text_of: TextOf) -> list[str]:
-    """The lines that are added, without the program's name."""
+def explain(program: str, words: list[str], status: int, said: str, text_of: TextOf, files: dict[int, Named], by_hand: bool) -> list[str]:
+    """The lines that are added, without the program's name. `files` are those that lines of the input name; the input was typed where
+    `by_hand` says so."""
     if status == 1:
         return command_line(program, words)
     line = read(program, words) if program in GRAMMARS else Line()
     first = said.splitlines()[0] if said else ""
     if program == "apei":
-        return list(of_apei(line, status, first, text_of))
+        added = list(of_apei(line, status, first, text_of, files))
+        return [*added, KEEPS] if status == 2 and line.job == "sim" and by_hand else added
     if program == "apei-look":
         return list(of_look(line, status, first))
     if program == "apei-show" and status == 3:
@@ -54,9 +47,12 @@ def command_line(program: str, words: list[str]) -> list[str]:
     return [*([fault] if fault else []), f"./{program} --help says {what}"]
 
 
-def of_apei(line: Line, status: int, first: str, text_of: TextOf) -> Iterator[str]:
+def of_apei(line: Line, status: int, first: str, text_of: TextOf, files: dict[int, Named]) -> Iterator[str]:
     place = re.search(r"line (\d+)", first)
-    if status == 2 and place:
+    named = files.get(int(place[1])) if place and status in (2, 7) else None
+    if named and (named.why or status == 7):
+        yield why_not_filled(named)
+    elif status == 2 and place:
         yield of_line(line.job or "", int(place[1]), int(first.split()[-1]), text_of())
     elif status == 5:
         yield why_flash_failed(line)
@@ -229,12 +225,18 @@ def why_not_opened(image: str) -> Optional[str]:
 def of_geometry(line: Line, numbers: list[int]) -> Iterator[str]:
     sector, per_slot, slots, size = numbers
     if size == 0:
-        yield which_bound(sector, per_slot, slots)
+        yield which_bound(sector, per_slot, slots) or is_empty(line.options.get("--image"))
         return
     yield f"the file has {size} bytes, and this geometry {sector * per_slot * slots}: {what_fits(line.options.get('--image'), sector, per_slot, size)}"
 
 
-def which_bound(sector: int, per_slot: int, slots: int) -> str:
+def is_empty(image: Optional[str]) -> str:
+    """What is said of a file without a byte: the program says no more of it than of a geometry outside its limits."""
+    return f"{image} is empty, and a flash is not: play makes the file where there is none"
+
+
+def which_bound(sector: int, per_slot: int, slots: int) -> Optional[str]:
+    """The limit that a geometry is outside of. Within these no flash has more than 64 MiB."""
     if sector not in [256 << bit for bit in range(8)]:
         return f"--sector={sector}: a sector has a power of two from 256 to 32768 bytes"
     if not 2 <= per_slot <= 16:
@@ -243,7 +245,7 @@ def which_bound(sector: int, per_slot: int, slots: int) -> str:
         return f"a slot of {per_slot} sectors of {sector} has {sector * per_slot} bytes, and room for 65536 is the most"
     if not 2 <= slots <= 1024:
         return f"--slots={slots}: there are 2 to 1024 slots"
-    return f"{slots} slots of {per_slot} sectors of {sector} have {sector * per_slot * slots} bytes, and 67108864 (64 MiB) are the most"
+    return None
 
 
 def what_fits(image: Optional[str], sector: int, per_slot: int, size: int) -> str:
@@ -252,6 +254,8 @@ def what_fits(image: Optional[str], sector: int, per_slot: int, size: int) -> st
     if seems:
         return (f"heads stand where slots of {seems['per_slot']} sectors of {seems['sector']} begin, and "
                 f"--sector={seems['sector']} --per-slot={seems['per_slot']} --slots={seems['slots']} would fit")
+    if size == 0:
+        return f"{image} is empty"
     slots, rest = divmod(size, sector * per_slot)
     if rest == 0 and 2 <= slots <= 1024:
         return f"--slots={slots} would fit"
@@ -345,7 +349,7 @@ def why_look_fails(image: str) -> Optional[str]:
 def look_geometry(line: Line, image: Optional[str], numbers: list[str]) -> Iterator[str]:
     given = [int(line.options.get(name) or default) for name, default in (("--sector", 4096), ("--per-slot", 2), ("--slots", 32))]
     if len(numbers) < 2:
-        yield which_bound(*given)
+        yield which_bound(*given) or "the geometry is outside its limits"
     elif is_medium(image):
         yield f"its first sector says that it is a medium of {numbers[1]} bytes: it was cut off, or more stands behind it"
     else:

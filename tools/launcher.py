@@ -3,7 +3,8 @@
 - --help, -h and --version are answered here, and built nothing for.
 - Where the program has not been built since the last change of the sources, it is proved and built first. Where it is built and there is no
   toolchain, it is run as it is.
-- `apei`: --show takes a comma for the | that a shell wants in quotes. `play` looks at its file first, by apei-look: a file that seems to be none
+- `apei`: --show takes a comma for the | that a shell wants in quotes. A line that names a file, as `write @FILE`, gets the digits of its bytes
+  (tools/lines.py). `play` looks at its file first, by apei-look: a file that seems to be none
   of the geometry, none of ours, or a library's medium ends the run with status 6 before anything is touched, but behind the word --force before
   the job.
 - `apei-look`: the bytes of a record are not written to a terminal, but behind the word --force.
@@ -20,6 +21,10 @@ import subprocess
 import sys
 import threading
 from typing import Any, NamedTuple, Optional
+
+import streams
+from lines import Filled, names_files
+from streams import write_all
 
 TOP = os.path.dirname(os.path.dirname(os.path.realpath(__file__)))
 # As much of an input as a program reads: 16 MiB and the longest line, and what its reader takes at once.
@@ -46,7 +51,7 @@ class Program(NamedTuple):
         return os.path.join(TOP, "tools", "help" + self.name.removeprefix("apei") + ".txt")
 
     def say(self, text: str) -> None:
-        print(f"{self.name}: {text}", file=sys.stderr, flush=True)
+        streams.say(self.name, text)
 
 
 def text_in(path: str) -> str:
@@ -109,6 +114,9 @@ def build(program: Program) -> tuple[int, bool]:
     """Builds the program where it has to be: a status, and whether its sources are newer and it could not be."""
     is_built = os.access(program.path, os.X_OK)
     if not os.path.exists(os.path.join(TOP, "crates.txt")):
+        if not is_built:
+            why = "it may not be run" if os.path.exists(program.path) else "it is not there"
+            program.say(f"{program.path}: {why}: ./install puts it there")
         return (0 if is_built else NOT_BUILT), False
     if is_built and not has_newer_sources(program):
         return 0, False
@@ -138,39 +146,57 @@ def build_all(crates: list[str]) -> int:
     status = child[0].wait()
     for number, before in kept.items():
         signal.signal(number, before)
-    return end_as(-taken[0]) if taken else status
+    return streams.end_by(taken[0]) if taken else status
 
 
 class Input:
-    """Standard input, of which what the program may read is kept where it comes from a pipe, so that a line can be shown."""
+    """Standard input, of which what the program may read is kept where it comes through here, so that a line can be shown.
 
-    def __init__(self) -> None:
+    A terminal and a pipe come through here, and a file that names others. The program reads any other file itself."""
+
+    def __init__(self, program: Program, words: list[str]) -> None:
         self.kept = bytearray()
         self.start: Optional[int] = None
+        self.failed: Optional[OSError] = None
         try:
             mode = os.fstat(0).st_mode
         except OSError:
             mode = 0
-        self.is_pipe = stat.S_ISFIFO(mode) or stat.S_ISSOCK(mode)
+        self.by_hand = program.name == "apei" and stat.S_ISCHR(mode) and os.isatty(0)
+        self.comes_through = self.by_hand or stat.S_ISFIFO(mode) or stat.S_ISSOCK(mode)
+        self.filled = Filled(lambda: job_of(program, words), program.say)
         if stat.S_ISREG(mode):
             self.start = os.lseek(0, 0, os.SEEK_CUR)
+            self.comes_through = program.name == "apei" and names_files(self.text() or b"")
+        self.fills = program.name == "apei"
+
+    def read(self) -> bytes:
+        try:
+            return os.read(0, 1 << 16)
+        except OSError as error:
+            self.failed = error
+            return b""
 
     def pump(self, sink: int) -> None:
         """Gives the program what comes, as it comes."""
         try:
-            while data := os.read(0, 1 << 16):
-                if len(self.kept) < KEPT:
-                    self.kept += data
-                while data:
-                    data = data[os.write(sink, data) :]
+            while data := self.read():
+                self.give(sink, self.filled.take(data) if self.fills else data)
+            self.give(sink, self.filled.last())
         except OSError:
-            pass
+            pass  # The program has ended.
         finally:
             os.close(sink)
 
+    def give(self, sink: int, data: bytes) -> None:
+        if len(self.kept) < KEPT:
+            self.kept += data
+        while data:
+            data = data[os.write(sink, data) :]
+
     def text(self) -> Optional[bytes]:
         """What the program was given, as far as it reads; None where that is not known."""
-        if self.is_pipe:
+        if self.comes_through:
             return bytes(self.kept)
         if self.start is None:
             return None
@@ -178,6 +204,12 @@ class Input:
             return os.pread(0, KEPT, self.start)
         except OSError:
             return None
+
+
+def job_of(program: Program, words: list[str]) -> Optional[str]:
+    from words import read
+
+    return read(program.name, words).job
 
 
 class Ended(NamedTuple):
@@ -201,7 +233,7 @@ def run(words: list[str], given: Input) -> Ended:
     for number in PASSED_ON:
         if signal.getsignal(number) != signal.SIG_IGN:
             signal.signal(number, pass_on)
-    if given.is_pipe:
+    if given.comes_through:
         source, sink = os.pipe()
     else:
         source, sink = 0, -1
@@ -209,7 +241,7 @@ def run(words: list[str], given: Input) -> Ended:
     child.append(started)
     for early_one in early:
         started.send_signal(early_one)
-    if given.is_pipe:
+    if given.comes_through:
         os.close(source)
         threading.Thread(target=given.pump, args=(sink,), daemon=True).start()
     said = bytearray()
@@ -219,14 +251,6 @@ def run(words: list[str], given: Input) -> Ended:
         said += data
         write_all(2, data)
     return Ended(started.wait(), bytes(said))
-
-
-def write_all(sink: int, data: bytes) -> None:
-    try:
-        while data:
-            data = data[os.write(sink, data) :]
-    except OSError:
-        pass
 
 
 def with_commas(words: list[str]) -> list[str]:
@@ -305,13 +329,15 @@ def writes_to_terminal(words: list[str]) -> bool:
     return is_record and os.isatty(1)
 
 
-def end_as(status: int) -> int:
-    """Ends as the program did: by the same signal where it was one."""
-    if status >= 0:
-        return status
-    signal.signal(-status, signal.SIG_DFL)
-    os.kill(os.getpid(), -status)
-    return 128 - status
+def told_to_end(program: Program, words: list[str], number: int) -> str:
+    """A sentence on a run that a signal ended."""
+    from words import read
+
+    line = read(program.name, words)
+    what = "interrupted" if number == signal.SIGINT else f"ended by the signal {signal.Signals(number).name}"
+    if line.job == "play":
+        return f"{what}: the lines that were answered were played, and {line.options.get('--image')} has their records"
+    return what
 
 
 def launch(program: Program, words: list[str]) -> int:
@@ -330,29 +356,32 @@ def launch(program: Program, words: list[str]) -> int:
     if program.name == "apei-look" and not is_forced and writes_to_terminal(words):
         program.say("the bytes of a record are not written to a terminal. Send them to a file or a pipe; --force writes them all the same.")
         return 4
-    given = Input()
+    given = Input(program, words)
     ended = run([program.path, *words], given)
     if is_old:
         program.say("the sources are newer than the program, which was run as it is: there is no toolchain here to build it")
+    if ended.status < 0:
+        program.say(told_to_end(program, words, -ended.status))
+        return streams.end_by(-ended.status)
     if ended.status > 0:
         from explain import explain
 
-        for line in explain(program.name, words, ended.status, ended.said.decode(errors="replace"), given.text):
+        said = ended.said.decode(errors="replace")
+        for line in explain(program.name, words, ended.status, said, given.text, given.filled.files, given.by_hand):
             program.say(line)
-    return end_as(ended.status)
+    if given.failed and ended.status == 0:
+        program.say(f"standard input: {given.failed.strerror}")
+        return streams.NOT_READ
+    return ended.status
 
 
 def main() -> int:
-    if len(sys.argv) < 2:
-        print("usage: tools/launch NAME WORD..", file=sys.stderr)
-        return 1
+    if len(sys.argv) < 2 or sys.argv[1:] == ["--build"]:
+        raise streams.Failed(1, "usage: tools/launch NAME WORD.. | tools/launch --build NAME")
     if sys.argv[1] == "--build":
         return build(Program(sys.argv[2]))[0]
-    try:
-        return launch(Program(sys.argv[1]), sys.argv[2:])
-    except BrokenPipeError:
-        return 4
+    return launch(Program(sys.argv[1]), sys.argv[2:])
 
 
-if __name__ == "__main__":
-    sys.exit(main())
+def start() -> None:
+    streams.end(next((it for it in sys.argv[1:] if it != "--build"), "launch"), main)

@@ -115,10 +115,18 @@ class Tally:
         return 1 if self.wrong else 0
 
 
+def one_by_one(job: Callable[[Case], Answer], cases: Iterable[Case]) -> Iterator[Answer]:
+    """The answers of a job for each case, on all processors, as they come. Where it is interrupted, no further case is begun."""
+    lanes = ThreadPoolExecutor(os.cpu_count())
+    try:
+        yield from lanes.map(job, cases)
+    finally:
+        lanes.shutdown(cancel_futures=True)
+
+
 def side_by_side(job: Callable[[Case], Answer], cases: Iterable[Case]) -> list[Answer]:
     """The answers of a job for each case, on all processors."""
-    with ThreadPoolExecutor(os.cpu_count()) as lanes:
-        return list(lanes.map(job, cases))
+    return list(one_by_one(job, cases))
 
 
 @contextmanager

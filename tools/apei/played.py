@@ -8,14 +8,16 @@ import argparse
 import re
 import shutil
 import subprocess
-import sys
 from dataclasses import dataclass
 from pathlib import Path
 
 from apei import TOP
 from apei.flash import Geometry, torn
 from apei.harness import Ended, Program, image_file, scratch
+from streams import Failed, input_of
 
+# The status where strace is missing, or sees too little.
+NO_STRACE = 69
 PWRITE = re.compile(r'pwrite64\(\d+, "((?:\\x[0-9a-f]{2})*)"(\.\.\.)?, (\d+), (\d+)\) += (-?\d+)')
 
 
@@ -60,7 +62,7 @@ class Job:
         with image_file(image) as path:
             done = self.program.run("play", f"--image={path}", *self.words, given=script)
             if done.status:
-                raise SystemExit(f"{done.said.strip()}, status {done.status}")
+                raise Failed(1, f"{done.said.strip()}, status {done.status}")
             return done.text, path.read_bytes()
 
 
@@ -82,7 +84,7 @@ def built(name: str) -> Program:
 
 
 def job_of(given: argparse.Namespace) -> Job:
-    script = sys.stdin.buffer.read() if given.script == "-" else Path(given.script).read_bytes()
+    script = input_of(given.script)
     geometry = Geometry(given.sector, given.per_slot, given.slots)
     return Job(Program(given.program.resolve()) if given.program else built("apei"), script, geometry, given.steps)
 
@@ -90,24 +92,24 @@ def job_of(given: argparse.Namespace) -> Job:
 def changes(job: Job) -> tuple[str, list[Change]]:
     """The replies of `play` over an erased flash, and each change that it makes."""
     if not shutil.which("strace"):
-        raise SystemExit("the changes of a script are seen by strace, which is not here: apt-get install strace")
+        raise Failed(NO_STRACE, "the changes of a script are seen by strace, which is not on this machine (Debian's package strace)")
     with scratch() as folder:
         image, log = folder / "image", folder / "log"
         image.write_bytes(job.geometry.erased)
         trace = ["strace", "-f", "-qq", "-xx", "-s", "100000", "-o", str(log), "-e", "trace=pwrite64"]
         done = job.program.run("play", f"--image={image}", *job.words, given=job.script, before=trace)
         if done.status:
-            raise SystemExit(f"{done.said.strip()}: the script is not played to its end, status {done.status}")
+            raise Failed(1, f"{done.said.strip()}: the script is not played to its end, status {done.status}")
         made = [change_of(line) for line in log.read_text().splitlines() if "pwrite64" in line]
         if images(job.geometry, made)[-1] != image.read_bytes():
-            raise SystemExit("strace has not seen all changes")
+            raise Failed(NO_STRACE, "strace has not seen all changes")
     return done.text, made
 
 
 def change_of(line: str) -> Change:
     found = PWRITE.search(line)
     if not found or found[2] or found[3] != found[5]:
-        raise SystemExit(f"strace has not seen a whole change: {line[:80]}")
+        raise Failed(NO_STRACE, f"strace has not seen a whole change: {line[:80]}")
     return Change(int(found[4]), bytes.fromhex(found[1].replace("\\x", "")))
 
 
@@ -152,10 +154,3 @@ def answered(script: bytes, replies: str) -> list[Answered]:
                 out.append(Answered(number, line, said, step))
                 break
     return out
-
-
-def fail(text: str) -> int:
-    print(text, file=sys.stderr)
-    return 1
-
-

@@ -10,6 +10,7 @@ ends the program too, and a program that is older than its sources runs where th
 import fcntl
 import os
 import pty
+import re
 import shutil
 import signal
 import subprocess
@@ -60,6 +61,9 @@ SAID: list[tuple[str, bytes, int, list[str]]] = [
     ("apei sim --fail-read=0", b"", 5,
      ["apei: flash failed", "apei: --fail-read=0 made the flash fail as the machine was booted, reset or given power"]),
     ("apei sim --slots=1", b"", 6, ["apei: bad geometry 4096 2 1 0", "apei: --slots=1: there are 2 to 1024 slots"]),
+    ("apei play --image=empty", b"", 6,
+     ["apei: bad geometry 4096 2 32 0", "apei: empty is empty, and a flash is not: play makes the file where there is none"]),
+    ("apei-look empty", b"", 6, ["apei-look: the image has 0 bytes, and the geometry 262144", "apei-look: empty is empty"]),
     ("apei play --image=short", b"", 6,
      ["apei: bad geometry 4096 2 32 65536", "apei: the file has 65536 bytes, and this geometry 262144: --slots=8 would fit"]),
     ("apei play --image=six --slots=16", b"", 6, ["apei: bad geometry 4096 2 16 262144",
@@ -68,6 +72,12 @@ SAID: list[tuple[str, bytes, int, list[str]]] = [
     ("apei sim", b"#" * 140001 + b"\n", 7, ["apei: line 1 too long", "apei: line 1 has 140001 bytes or more, and a line may have 140000"]),
     ("apei sim", (b"#" * 131071 + b"\n") * 128 + b"count\n", 7, ["apei: line 129 too long",
      "apei: line 129 has 5 bytes, which are few enough, but it ends past the first 16777216 bytes (16 MiB) of the input"]),
+    ("apei sim", b"count\nwrite @none\n", 2, ["apei: line 2 column 7", "apei: none: No such file or directory"]),
+    ("apei sim", b"write @.\n", 2, ["apei: line 1 column 7", "apei: .: Is a directory"]),
+    ("apei sim", b"error @empty\n", 2, ["apei: line 1 column 7", "apei: empty: the file is empty"]),
+    ("apei sim", b"read @record\n", 2, ["apei: line 1 column 6", "apei: '@' is no decimal digit; the line has the form read NUM"]),
+    ("apei sim", b"table @six\n", 7, ["apei: line 1: six: the file does not begin with ERST", "apei: line 1 too long",
+     "apei: six has 70001 bytes or more, whose digits are more than the 140000 bytes that a line may have"]),
     ("apei-look --jason six", b"", 1, ["apei-look: bad words", "apei-look: --jason is no option; the nearest is --json", LOOK_BAD]),
     ("apei-show", b"", 1, ["apei-show: bad words", "apei-show: there is no file to show", SHOW_BAD]),
     ("apei-show --json --brief six", b"", 1, ["apei-show: bad words", "apei-show: --json and --brief are one too many", SHOW_BAD]),
@@ -89,6 +99,15 @@ SAID: list[tuple[str, bytes, int, list[str]]] = [
     ("apei-look damaged", b"", 6, ["apei-look: a medium of the library whose first sector is damaged: its geometry is not known"]),
     ("apei-look cut", b"", 6, ["apei-look: the image has 1000 bytes, and the geometry 4096",
      "apei-look: its first sector says that it is a medium of 4096 bytes: it was cut off, or more stands behind it"]),
+]
+# Words and input that are answered, the replies, and what is said of the files that lines name.
+NAMED: list[tuple[str, bytes, str, str]] = [
+    ("apei sim", b"write @record\ncount", "wrote 7 300 @7\ncount 1 @7\n", ""),
+    ("apei sim", b"# no @record\n\nwrite @two words\nread 7\n", "wrote 7 300 @7\nrecord 7 300 HEX @7\n", ""),
+    ("apei check", b"record @record\nblock @record", "record 300 sections 0 severity 2 id 7 rest 0\nbad block WHY\n", ""),
+    ("apei sim", b"write @digits\n", "refused WHY @0\n", "apei: line 1: digits: the file holds digits in text, and not the bytes themselves\n"),
+    ("apei sim", b"count\ntable @record\n", "count 0 @0\nrefused WHY @0\n", "apei: line 2: record: the file does not begin with ERST\n"),
+    ("apei hub", b"error 0 @record\n", "refused WHY\n", ""),
 ]
 # Words and input that are answered, and the replies.
 ANSWERED: list[tuple[str, bytes, str]] = [
@@ -112,6 +131,11 @@ class Runs(Tally):
         self.environment = {**os.environ, "PATH": f"{folder}/bin:{os.environ['PATH']}"}
         os.symlink("/none/x", folder / "nowhere")
         (folder / "short").write_bytes(b"\xff" * 65536)
+        (folder / "empty").write_bytes(b"")
+        digits = write(7, 300).split()[1]
+        for name in ("record", "two words"):
+            (folder / name).write_bytes(bytes.fromhex(digits))
+        (folder / "digits").write_text(digits + "\n")
         (folder / "random").write_bytes(bytes((at * 7 + at // 251) % 255 for at in range(Geometry().size)))
         # A first write whose first erase was torn.
         (folder / "torn").write_bytes(bytes(4096) + Geometry().erased[4096:])
@@ -161,6 +185,31 @@ def said(runs: Runs) -> None:
         runs.expect((done.status, done.text, done.said) == (0, replies, ""), f"{words}: {done}")
 
 
+def files_in_lines(runs: Runs) -> None:
+    """A line that names a file is played with its bytes, from a pipe, from a file, and as it is typed."""
+    for words, given, replies, lines in NAMED:
+        with tempfile.TemporaryFile() as file:
+            file.write(given)
+            file.seek(0)
+            for done in (runs.run(words, given), runs.run(words, stdin=file)):
+                right = re.fullmatch(re.escape(replies).replace("WHY", "[^\\n]+").replace("HEX", "[0-9a-f]+"), done.text)
+                runs.expect(done.status == 0 and right is not None and done.said == lines, f"{words}, {given!r}: {done}")
+    whole = runs.run("apei sim", b"write @record\n" * 3 + b"#" * 140_000 + b"\nwrite @record\nwrite " + (runs.folder / "record").read_bytes().hex().encode())
+    runs.expect(whole.status == 0 and len(whole.replies) == 5, f"lines beside long ones: {whole}")
+
+
+def typed(runs: Runs) -> None:
+    """A line that is none ends a run whose input is typed, and is said to end it."""
+    for words, keeps in (("apei sim", True), ("apei play --image=six", False)):
+        ours, theirs = pty.openpty()
+        os.write(ours, b"write @record\ncuont\n")
+        done = runs.run(words, stdin=theirs)
+        os.close(theirs)
+        os.close(ours)
+        said = "sim keeps no records from run to run, so those of this one are gone: play --image=FILE keeps them in a file" in done.said
+        runs.expect((done.status, len(done.replies), said) == (2, 1, keeps) and "line 2 column 2" in done.said, f"{words}, typed: {done}")
+
+
 def faults(runs: Runs) -> None:
     """The command lines that the tool `options` tries have a fault where the program refuses them."""
     for words in IN_FORM:
@@ -197,11 +246,14 @@ def let_signals_end_it() -> None:
 def signals(runs: Runs) -> None:
     """A script that is told to end ends when its program has, and the lock is free then."""
     for number in ENDING:
-        started = runs.start("apei play --image=six", stdin=subprocess.PIPE, stdout=subprocess.DEVNULL)
+        started = runs.start("apei play --image=six", stdin=subprocess.PIPE, stdout=subprocess.DEVNULL, stderr=subprocess.PIPE)
         child = child_of(started.pid)
         started.send_signal(number)
         status = started.wait(20)
-        runs.expect(child is not None and not is_alive(child) and status == -number, f"{number}: status {status}, the program {child}")
+        assert started.stderr
+        said = started.stderr.read().decode()
+        is_said = said.startswith("apei: ") and said.endswith(": the lines that were answered were played, and six has their records\n")
+        runs.expect(child is not None and not is_alive(child) and status == -number and is_said, f"{number}: status {status}, the program {child}, {said}")
         with open(runs.folder / "six", "rb") as file:
             fcntl.flock(file, fcntl.LOCK_EX | fcntl.LOCK_NB)
 
@@ -302,5 +354,7 @@ def main(_words: list[str]) -> int:
         builds(runs)
         terminals(runs)
         answers(runs)
+        files_in_lines(runs)
+        typed(runs)
         without_toolchain(runs)
         return runs.end()
