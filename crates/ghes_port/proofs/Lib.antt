@@ -1,0 +1,13 @@
+pub mod SourceLemmas
+pub mod BlockLemmas
+pub mod MemoryLemmas
+pub mod WidthLemmas
+pub mod TogetherLemmas
+pub mod AccessLemmas
+pub mod BesideLemmas
+pub mod AddressLemmas
+pub mod NoticeLemmas
+pub mod RunLemmas
+pub mod RegisterLemmas
+pub mod TableLemmas
+pub mod SetupLemmas

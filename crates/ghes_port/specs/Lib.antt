@@ -1,0 +1,9 @@
+pub mod Places
+pub mod Memories
+pub mod Machine
+pub mod Sound
+pub mod Queues
+pub mod Readers
+pub mod Setups
+pub mod Tables
+pub mod Several

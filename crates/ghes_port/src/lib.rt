@@ -1,0 +1,30 @@
+//! The firmware's side of generic hardware error sources for others to embed: it tells the accesses that its owner makes on the guest's
+//! memory.
+#![tactic(auto)]
+
+mod accesses;
+mod errors;
+mod laws;
+mod maps;
+mod overlaps;
+mod registers;
+mod setups;
+mod source;
+mod sources;
+mod stages;
+mod steps;
+mod table;
+mod writes;
+
+pub use accesses::{Access, Outcome};
+pub use errors::{OpenError, SubmitError};
+pub use laws::{
+    a_guest_takes_a_prefix, an_access_of_another_is_elsewhere, an_access_stays_inside,
+    each_block_is_notified_once, nothing_is_overwritten,
+};
+pub use maps::{AckRegister, SourceMap};
+pub use setups::Setup;
+pub use source::Source;
+pub use sources::Sources;
+pub use stages::Stage;
+pub use table::bert;
