@@ -183,6 +183,7 @@ static void fail_write(struct opening *with)
     act(with, &erst, EXECUTE, 0);
     expect(act(with, &erst, BUSY, 0) == 0 && act(with, &erst, STATUS, 0) == 3, "a failure is told no longer");
     write_record(with, &erst, 9, 200);
+    command(with, &erst, CLEAR, 9);
     expect(apei_erst_close(&erst) == APEI_OK && heap.held == 0, "a close does not give all memory back");
 }
 

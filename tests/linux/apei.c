@@ -26,16 +26,17 @@ static void say(const char *what, enum apei_status status)
     fprintf(stderr, "apei: %s: %s\n", what, apei_status_text(status));
 }
 
-static void make(struct device *d, const apei_change *change, const uint8_t *bytes)
+static bool make(struct device *d, const apei_change *change, const uint8_t *bytes)
 {
     static uint8_t erased[32768];
 
     if (!erased[0])
         memset(erased, 0xFF, sizeof erased);
-    medium_change(d->medium + change->offset, change->kind == APEI_ERASE ? erased : bytes, change->length);
+    return !medium_change(d->medium + change->offset, change->kind == APEI_ERASE ? erased : bytes, change->length);
 }
 
-/* Every change that is due is made on the medium before the call that made it due returns. */
+/* Every change that is due is made on the medium before the call that made it due returns. Behind one that fails the device
+ * goes on over what the medium holds. */
 static int make_all(struct device *d)
 {
     apei_change change;
@@ -43,8 +44,11 @@ static int make_all(struct device *d)
     enum apei_status status;
 
     while ((status = apei_erst_change(&d->erst, &change, bytes)) == APEI_OK) {
-        make(d, &change, bytes);
-        if ((status = apei_erst_done(&d->erst)))
+        if (make(d, &change, bytes))
+            status = apei_erst_done(&d->erst);
+        else
+            status = apei_erst_failed(&d->erst, d->medium, d->size);
+        if (status)
             break;
     }
     return status == APEI_NONE ? 0 : (int)status;

@@ -26,7 +26,7 @@ static size_t window;
 static struct mapping *mappings;
 static struct resource *resources;
 static char refusal[128];
-static bool stops_before, stops_within;
+static bool stops_before, stops_within, fails_change;
 static uint64_t stop_access, stop_change;
 static enum tear stop_tear;
 
@@ -53,9 +53,16 @@ void bus_stop_within(uint64_t change, enum tear tear)
     stop_tear = tear;
 }
 
+void bus_fail_change(uint64_t change, enum tear tear)
+{
+    fails_change = true;
+    stop_change = bus_counts.changes + change;
+    stop_tear = tear;
+}
+
 void bus_stop_nowhere(void)
 {
-    stops_before = stops_within = false;
+    stops_before = stops_within = fails_change = false;
 }
 
 const char *bus_refusal(void)
@@ -79,14 +86,18 @@ static void tear_change(uint8_t *at, const uint8_t *bytes, size_t size)
         memmove(at, bytes, stop_tear == NOTHING ? 0 : stop_tear == HALF ? size / 2 : size);
 }
 
-void medium_change(uint8_t *at, const uint8_t *bytes, size_t size)
+int medium_change(uint8_t *at, const uint8_t *bytes, size_t size)
 {
-    if (stops_within && bus_counts.changes == stop_change) {
+    bool is_torn = (stops_within || fails_change) && bus_counts.changes == stop_change;
+
+    if (is_torn)
         tear_change(at, bytes, size);
+    if (is_torn && stops_within)
         _exit(STOPPED);
-    }
     bus_counts.changes++;
-    memmove(at, bytes, size);
+    if (!is_torn)
+        memmove(at, bytes, size);
+    return is_torn;
 }
 
 static bool lies_within(uint64_t address, uint64_t size)

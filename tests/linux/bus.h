@@ -9,7 +9,7 @@
 /* The exit status of a process whose machine was stopped. */
 enum { STOPPED = 3 };
 
-/* What a stop within a change leaves in its range: nothing, its first half, all of it, or other bytes. */
+/* What a stop within a change, or a change that fails, leaves in its range: nothing, its first half, all of it, or other bytes. */
 enum tear { NOTHING, HALF, WHOLE, OTHER, TEARS };
 
 struct bus_counts {
@@ -26,6 +26,9 @@ void bus_attach(struct device *device, uint64_t base);
 void bus_stop_before(uint64_t access);
 void bus_stop_within(uint64_t change, enum tear tear);
 void bus_stop_nowhere(void);
+
+/* The medium fails the change of this number, counted from this call, and no other. The machine goes on. */
+void bus_fail_change(uint64_t change, enum tear tear);
 
 /* The last access that the bus or the device refused, in words; "" where there was none. */
 const char *bus_refusal(void);

@@ -37,8 +37,9 @@ int device_put(struct device *device, uint64_t offset, const uint8_t *bytes, siz
 
 /*
  * The harness has this one: `size` bytes go to `at`, which lies in the image. A device that changes its image by this
- * function alone is also stopped within each change, with four tears.
+ * function alone is also stopped within each change, with four tears. Where it answers another number than 0, the change
+ * failed, with such a tear, and the machine goes on: the driver has to be told that its command failed.
  */
-void medium_change(uint8_t *at, const uint8_t *bytes, size_t size);
+int medium_change(uint8_t *at, const uint8_t *bytes, size_t size);
 
 #endif

@@ -304,10 +304,11 @@ static void play(const struct scenario *scenario)
     if (scenario != &the_figures && !strstr(scenario->name, only))
         return;
     memset(image, 0xFF, size);
-    uint64_t stops = shared->stops, tears = shared->tears;
+    uint64_t stops = shared->stops, tears = shared->tears, fails = shared->fails;
     memset(shared, 0, sizeof *shared);
     shared->stops = stops;
     shared->tears = tears;
+    shared->fails = fails;
     child = split();
     if (!child) {
         scenario->runs();
@@ -412,6 +413,8 @@ int main(int count, char **given)
     if (shared->stops)
         printf("the machine was stopped %llu times before an access and %llu times within a change\n",
                (unsigned long long)shared->stops, (unsigned long long)shared->tears);
+    if (shared->fails)
+        printf("the medium failed %llu changes\n", (unsigned long long)shared->fails);
     if (results.left_out)
         printf("%d scenarios within changes left out: the device does not change its image by medium_change\n", results.left_out);
     printf("%d ok, %d failed\n", results.ok, results.failed);

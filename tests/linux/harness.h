@@ -26,6 +26,7 @@ struct shared {
     size_t range;                /* the size of the log range */
     uint64_t number;             /* a number that a machine leaves to the scenario */
     uint64_t stops, tears;       /* how often a machine was stopped before an access, and within a change */
+    uint64_t fails;              /* how often the medium failed a change */
 };
 extern struct shared *shared;
 

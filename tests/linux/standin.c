@@ -81,14 +81,22 @@ static struct slot *find(const struct device *d, uint64_t id)
     return found;
 }
 
-static void end(const struct device *d, struct slot *slot)
+/* Behind a change that failed a slot counts where it is whole, and of two with one identifier the later one alone. */
+static bool change(const struct device *d, struct slot *slot, const void *bytes, size_t size)
+{
+    bool is_made = !medium_change((uint8_t *)slot, bytes, size);
+
+    d->stands[slot - d->slots] = is_whole(d, slot);
+    for (size_t i = 0; !is_made && i < d->count; i++)
+        d->stands[i] = d->stands[i] && find(d, id_of(&d->slots[i])) == &d->slots[i];
+    return is_made || has(d, "failed-is-told-as-done");
+}
+
+static bool end(const struct device *d, struct slot *slot)
 {
     static const uint8_t none[sizeof(struct slot) - RANGE_SIZE];
 
-    if (has(d, "not-kept") || has(d, "clear-forgotten"))
-        return;
-    medium_change((uint8_t *)slot, none, sizeof none);
-    d->stands[slot - d->slots] = false;
+    return has(d, "not-kept") || has(d, "clear-forgotten") || change(d, slot, none, sizeof none);
 }
 
 static uint64_t records(const struct device *d)
@@ -127,11 +135,9 @@ static uint64_t write_record(struct device *d)
     fresh.checksum = checksum_of(&fresh);
     if (old && has(d, "old-is-ended-first"))
         end(d, old);
-    medium_change((uint8_t *)free_slot, (const uint8_t *)&fresh, sizeof fresh - RANGE_SIZE + fresh.length);
-    d->stands[free_slot - d->slots] = true;
-    if (old && !has(d, "old-is-ended-first"))
-        end(d, old);
-    return SUCCESS;
+    if (!change(d, free_slot, &fresh, sizeof fresh - RANGE_SIZE + fresh.length))
+        return FAILED;
+    return !old || has(d, "old-is-ended-first") || end(d, old) ? SUCCESS : FAILED;
 }
 
 static uint64_t read_record(struct device *d)
@@ -154,8 +160,7 @@ static uint64_t clear_record(struct device *d)
         slot = &d->slots[d->count - 1];
     if (!slot)
         return records(d) ? NOT_FOUND : EMPTY;
-    end(d, slot);
-    return SUCCESS;
+    return end(d, slot) ? SUCCESS : FAILED;
 }
 
 static uint64_t next_id(struct device *d)

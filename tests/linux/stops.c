@@ -1,6 +1,7 @@
 /*
  * stops.c - a machine that is stopped before each access of a command, and within each change that the device makes for it.
- * The next machine has to find the records from before the command, or those from behind it.
+ * The next machine has to find the records from before the command, or those from behind it. And a medium that fails each of
+ * these changes: the driver is told that the command failed, and the machine goes on.
  */
 #include "harness.h"
 #include <string.h>
@@ -11,7 +12,7 @@ static const uint64_t FIRST = 0x700;
 
 static uint64_t stop_number;
 static enum tear stop_tear;
-static enum { TO_THE_END, BEFORE_AN_ACCESS, WITHIN_A_CHANGE } stop_kind;
+static enum { TO_THE_END, BEFORE_AN_ACCESS, WITHIN_A_CHANGE, FAILS_A_CHANGE } stop_kind;
 
 static void set_stop(void)
 {
@@ -19,12 +20,33 @@ static void set_stop(void)
         bus_stop_before(stop_number);
     else if (stop_kind == WITHIN_A_CHANGE)
         bus_stop_within(stop_number, stop_tear);
+    else if (stop_kind == FAILS_A_CHANGE)
+        bus_fail_change(stop_number, stop_tear);
 }
 
 static void count_from(struct bus_counts before)
 {
     shared->counts.accesses = bus_counts.accesses - before.accesses;
     shared->counts.changes = bus_counts.changes - before.changes;
+}
+
+static void find_before_or_after(void);
+
+/* The command was answered so. Behind a change that failed the same machine lists and reads, and writes and clears another. */
+static void check_answer(int answer)
+{
+    static uint8_t record[LONGEST];
+
+    if (stop_kind != FAILS_A_CHANGE) {
+        check(!answer, "it is not carried out: %s", strerror(-answer));
+        return;
+    }
+    check(answer, "change %llu failed, and the command is told as done", (unsigned long long)stop_number);
+    bus_stop_nowhere();
+    find_before_or_after();
+    make_record(record, FIRST + 0x20, length_of(1, 5), 20);
+    check(!driver_write(record), "no record is written behind a change that failed");
+    check(!driver_clear(FIRST + 0x20), "no record is cleared behind a change that failed");
 }
 
 static void write_known(uint64_t id, size_t length, uint32_t seed)
@@ -36,8 +58,9 @@ static void write_known(uint64_t id, size_t length, uint32_t seed)
     know(&shared->after, id, length, seed);
     make_record(record, id, length, seed);
     set_stop();
-    check(!driver_write(record), "it is not written");
+    int answer = driver_write(record);
     count_from(before);
+    check_answer(answer);
 }
 
 static void command_write(void)
@@ -68,8 +91,9 @@ static void command_clear(void)
     shared->after = shared->records;
     forget(&shared->after, FIRST + 1);
     set_stop();
-    check(!driver_clear(FIRST + 1), "it is not cleared");
+    int answer = driver_clear(FIRST + 1);
     count_from(before);
+    check_answer(answer);
 }
 
 /* What the next machine finds. */
@@ -162,6 +186,25 @@ static void stop_each_change(void (*command)(void))
         }
 }
 
+/* The machine that starts behind it finds what the one found that went on. */
+static void fail_each_change(void (*command)(void))
+{
+    prepare(command);
+    uint64_t changes = shared->counts.changes;
+    if (!changes)
+        leave_out();
+    stop_kind = FAILS_A_CHANGE;
+    for (stop_number = 0; stop_number < changes; stop_number++)
+        for (stop_tear = NOTHING; stop_tear < TEARS; stop_tear++) {
+            image_restore(0);
+            check(machine(command), "the machine did not go on behind change %llu", (unsigned long long)stop_number);
+            uint64_t found = shared->number;
+            machine(find_before_or_after);
+            check(shared->number == found, "behind change %llu the next machine finds other records", (unsigned long long)stop_number);
+            shared->fails++;
+        }
+}
+
 static void before_each_access_of_a_write(void) { stop_each_access(command_write); }
 static void before_each_access_of_a_replacement(void) { stop_each_access(command_replace); }
 static void before_each_access_of_a_read(void) { stop_each_access(command_read); }
@@ -169,6 +212,9 @@ static void before_each_access_of_a_clear(void) { stop_each_access(command_clear
 static void within_each_change_of_a_write(void) { stop_each_change(command_write); }
 static void within_each_change_of_a_replacement(void) { stop_each_change(command_replace); }
 static void within_each_change_of_a_clear(void) { stop_each_change(command_clear); }
+static void failed_changes_of_a_write(void) { fail_each_change(command_write); }
+static void failed_changes_of_a_replacement(void) { fail_each_change(command_replace); }
+static void failed_changes_of_a_clear(void) { fail_each_change(command_clear); }
 
 const struct scenario stop_scenarios[] = {
     { "stopped-before-each-access-of-a-write", before_each_access_of_a_write },
@@ -178,5 +224,8 @@ const struct scenario stop_scenarios[] = {
     { "stopped-within-each-change-of-a-write", within_each_change_of_a_write },
     { "stopped-within-each-change-of-a-replacement", within_each_change_of_a_replacement },
     { "stopped-within-each-change-of-a-clear", within_each_change_of_a_clear },
+    { "each-change-of-a-write-fails", failed_changes_of_a_write },
+    { "each-change-of-a-replacement-fails", failed_changes_of_a_replacement },
+    { "each-change-of-a-clear-fails", failed_changes_of_a_clear },
     { NULL, NULL },
 };

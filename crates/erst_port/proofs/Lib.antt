@@ -9,4 +9,5 @@ pub mod OpenLemmas
 pub mod SavedLemmas
 pub mod LoadLemmas
 pub mod FailLemmas
+pub mod SettleLemmas
 pub mod LogLemmas

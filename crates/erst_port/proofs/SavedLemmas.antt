@@ -187,7 +187,7 @@ pub is_running : (tells : Type 0) (device : DeviceState) (registers : Registers)
     → (registers.running ≡ Nothing → ⊥) → IsRunning device
 is_running tells device registers is runs some = by_running tells device registers.running registers.offset (ap (λ (d : DeviceState). d.reading) is) runs some
 
-is_still : (tells : Type 0) (device : DeviceState) (registers : Registers) → device ≡ seen registers device.store → Runs tells registers.running registers.offset device.store
+pub is_still : (tells : Type 0) (device : DeviceState) (registers : Registers) → device ≡ seen registers device.store → Runs tells registers.running registers.offset device.store
     → registers.running ≡ Nothing → IsStill device
 is_still tells device registers is runs nothing = record {
   no_read = ap (λ (d : DeviceState). d.reading) is ∙ ap reading_of nothing;

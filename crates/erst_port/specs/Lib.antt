@@ -13,4 +13,5 @@ pub mod PortTables
 pub mod Openings
 pub mod Moves
 pub mod Saved
+pub mod Settling
 pub mod Loaded

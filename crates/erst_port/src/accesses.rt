@@ -66,7 +66,7 @@ impl Port {
 
     // Carries out the action of a code.
     #[inline(never)]
-    fn act(&mut self, code: u32) -> Result<(), PortError>
+    pub(crate) fn act(&mut self, code: u32) -> Result<(), PortError>
         ensures { ActionWritten self.old code result self.new }
     {
         if self.is_due() {

@@ -20,6 +20,7 @@ mod moving;
 mod open;
 mod port;
 mod saving;
+mod settling;
 mod table;
 mod windows;
 
