@@ -4,6 +4,7 @@ pub mod RequestLemmas
 pub mod SequenceLemmas
 mod StageLemmas
 mod PositionLemmas
+mod BoundLemmas
 pub mod CommandLemmas
 pub mod AttachLemmas
 pub mod CauseLemmas

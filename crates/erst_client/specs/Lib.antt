@@ -8,4 +8,5 @@ pub mod Waiting
 pub mod Stages
 pub mod Reaching
 pub mod Positions
+pub mod Bounds
 pub mod Steps

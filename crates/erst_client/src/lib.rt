@@ -14,6 +14,6 @@ mod stages;
 
 pub use client::Client;
 pub use errors::{AttachError, ClientError};
-pub use laws::a_told_command_is_a_sequence;
+pub use laws::{a_told_command_ends, a_told_command_is_a_sequence};
 pub use positions::Position;
 pub use stages::{Command, Stage};
