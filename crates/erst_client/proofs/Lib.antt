@@ -5,6 +5,7 @@ pub mod SequenceLemmas
 mod StageLemmas
 mod PositionLemmas
 mod BoundLemmas
+mod WritingLemmas
 pub mod CommandLemmas
 pub mod AttachLemmas
 pub mod CauseLemmas

@@ -9,4 +9,5 @@ pub mod Stages
 pub mod Reaching
 pub mod Positions
 pub mod Bounds
+pub mod Writing
 pub mod Steps
