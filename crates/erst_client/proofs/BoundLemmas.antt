@@ -23,13 +23,12 @@ use Rattle.erst_client.specs.declared.positions.Position.{Position}
 use Rattle.erst_client.specs.declared.requests.Request.{Request}
 use Rattle.erst_client.specs.declared.stages.Command.{Command}
 use Rattle.erst_client.specs.declared.stages.Part.{Part}
-use Rattle.erst_client.specs.declared.stages.Part.TheVariants.{Begin}
 use Rattle.erst_client.specs.declared.stages.Stage.{Stage}
 use Rattle.erst_client.specs.declared.stages.Stage.TheVariants.{Requesting, Checking, Waiting, Judging, Ending, Done}
 use Rattle.erst_client.specs.Sequences.{judged}
 use Rattle.erst_client.specs.Stages.{request_of, request_for, next_part, asked, busy, turned}
 use Rattle.erst_client.specs.Reaching.{steps_after}
-use Rattle.erst_client.specs.Positions.{program_for, entered, answered_in, answered_at, demanded_in, demanded_at, Moves, IsThere, GoesOn, Turns as TurnsOn}
+use Rattle.erst_client.specs.Positions.{program_for, entered, answered_in, demanded_in, Moves, IsThere, GoesOn, Turns as TurnsOn}
 use Rattle.erst_client.specs.Bounds.{paid, bound_in, bound_of}
 
 abbrev checks : List Entry → ℕ

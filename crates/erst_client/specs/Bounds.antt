@@ -1,5 +1,5 @@
 -- What bounds the accesses of a command: a number that falls with each answer.
-use Rattle.std.specs.Prelude.{ℕ, ◌+◌, ◌*◌, ◌==◌, ◌&&◌, not, if◌then◌else◌, List, length, Result, Ok, Err}
+use Rattle.std.specs.Prelude.{ℕ, ◌+◌, ◌*◌, ◌==◌, ◌&&◌, not, if◌then◌else◌, List, length, Ok, Err}
 use Rattle.erst_entries.specs.declared.actions.Action.TheVariants.{CheckBusyStatus}
 use Rattle.erst_entries.specs.declared.entries.Entry.{Entry}
 use Rattle.erst_entries.specs.Actions.{code_of}

@@ -18,5 +18,5 @@ pub use client::Client;
 pub use errors::{AttachError, ClientError};
 pub use laws::{a_told_command_ends, a_told_command_is_a_sequence, a_told_write_is_a_write};
 pub use positions::Position;
-pub use stages::{Command, Stage};
+pub use stages::{Command, Part, Stage};
 pub use writing::{WriteDemand, Writing};
