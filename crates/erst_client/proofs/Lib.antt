@@ -4,6 +4,8 @@ pub mod RequestLemmas
 pub mod SequenceLemmas
 mod StageLemmas
 mod PositionLemmas
+mod BoundLemmas
+mod WritingLemmas
 pub mod CommandLemmas
 pub mod AttachLemmas
 pub mod CauseLemmas

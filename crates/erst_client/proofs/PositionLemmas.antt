@@ -1,15 +1,13 @@
 -- A command that is told the answers of its accesses stands where a sequence stands.
-use Rattle.std.proofs.Common.{◌≡◌, ◌∙◌, ℕ, ◌<◌, List, Option, Some, None, Result, Ok, Err, refl, sym, ap, subst}
+use Rattle.std.proofs.Common.{◌≡◌, ℕ, List, Option, Some, None, Result, sym, subst}
 use Rattle.std.proofs.lemmas.Option.{none-some, same_Some}
 use Rattle.apei_space.specs.declared.faults.SpaceFault.{SpaceFault}
 use Rattle.apei_space.specs.Calls.{Call}
 use Rattle.erst_entries.specs.declared.actions.Action.TheVariants.{CheckBusyStatus, GetCommandStatus, EndOperation}
 use Rattle.erst_entries.specs.declared.entries.Entry.{Entry}
-use Rattle.erst_entries.specs.Programs.{Listed}
 use Rattle.erst_interp.specs.declared.states.RunState.{RunState}
 use Rattle.erst_interp.specs.declared.states.RunState.TheVariants.{Ready, Awaiting, Ended}
-use Rattle.erst_interp.specs.declared.stops.RunStop.{RunStop}
-use Rattle.erst_interp.specs.Told.{answered, Comes, Stands, demanded}
+use Rattle.erst_interp.specs.Told.{answered, Stands, demanded}
 use Rattle.erst_interp.proofs.ToldLemmas.{stands_first, stands_comes, stands_answered}
 use Rattle.erst_client.specs.declared.errors.ClientError.{ClientError}
 use Rattle.erst_client.specs.declared.positions.Position.{Position}
@@ -20,8 +18,8 @@ use Rattle.erst_client.specs.declared.stages.Stage.{Stage}
 use Rattle.erst_client.specs.declared.stages.Stage.TheVariants.{Requesting, Checking, Waiting, Judging, Ending, Done}
 use Rattle.erst_client.specs.Sequences.{Sequence}
 use Rattle.erst_client.specs.Stages.{request_of, request_for, requests_of, turned}
-use Rattle.erst_client.specs.Reaching.{steps_for, steps_after, Passes, Reached}
-use Rattle.erst_client.specs.Positions.{program_for, first_run, entered, turned_at, answered_in, result_at, Moves, IsThere, GoesOn, Turns, MadeBy, MadeIn, IsRunning, StandsBy, StandsAt}
+use Rattle.erst_client.specs.Reaching.{steps_for, steps_after, Reached}
+use Rattle.erst_client.specs.Positions.{program_for, first_run, entered, answered_in, result_at, Moves, IsThere, GoesOn, Turns, MadeBy, MadeIn, IsRunning, StandsBy, StandsAt}
 use Rattle.erst_client.proofs.StageLemmas.{reached_first, reached_run, reached_wait}
 
 -- a stage stands at its beginning once it was reached

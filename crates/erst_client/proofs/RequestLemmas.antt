@@ -1,5 +1,5 @@
 -- Requests one after another, and the accesses that they are.
-use Rattle.std.proofs.Common.{◌≡◌, ◌∙◌, ℕ, suc, ◌+◌, ◌<◌, List, ◌∷◌, length, drop, get_or, Result, Ok, Err, sym, ap, subst, arith, drop-cons}
+use Rattle.std.proofs.Common.{ℕ, List, ◌∷◌, Result, Ok, Err}
 use Rattle.apei_space.specs.Calls.{Call}
 use Rattle.apei_space.specs.Accesses.{Reaches}
 use Rattle.apei_space.proofs.AccessLemmas.{reaches_then}

@@ -1,5 +1,5 @@
 -- What the run of a stage leads to, and that the stages come to an end.
-use Rattle.std.proofs.Common.{◌≡◌, ◌∙◌, ℕ, ◌+◌, ◌*◌, ◌<◌, ◌≤◌, ◌==◌, if◌then◌else◌, nat_le, Bool, true, false, List, [], ◌∷◌, Option, Some, None, Result, Ok, Err, OnOk, refl, sym, ap, subst, arith}
+use Rattle.std.proofs.Common.{◌≡◌, ℕ, ◌+◌, ◌*◌, ◌<◌, ◌≤◌, ◌==◌, if◌then◌else◌, nat_le, Bool, true, false, List, [], ◌∷◌, Option, Some, None, Result, Ok, Err, refl, sym, subst, arith}
 use Rattle.std.proofs.lemmas.Bool.Decides.{nat_tests}
 use Rattle.std.proofs.lemmas.Option.{none-some, same_Some}
 use Rattle.apei_space.specs.Calls.{Call}
@@ -19,10 +19,10 @@ use Rattle.erst_client.specs.declared.stages.Part.TheVariants.{Begin, Offset, Id
 use Rattle.erst_client.specs.declared.stages.Stage.{Stage}
 use Rattle.erst_client.specs.declared.stages.Stage.TheVariants.{Requesting, Checking, Waiting, Judging, Ending, Done}
 use Rattle.erst_client.specs.Requests.{Performs, NoneLeft, StopsHere, AsksAll}
-use Rattle.erst_client.specs.Sequences.{IsIdle, IsStopped, NotAsked, NotWaited, NotTold, IsTold, judged}
+use Rattle.erst_client.specs.Sequences.{IsIdle, IsStopped, NotAsked, NotWaited, NotTold, IsTold}
 use Rattle.erst_client.specs.Waiting.{NoPause, Pause, NoTime, IsWaiting}
 use Rattle.erst_client.specs.Stages.{request_of, request_for, next_part, rest_of, requests_of, asked, busy, turned}
-use Rattle.erst_client.specs.Reaching.{steps_for, steps_after, Runs, Passes, IsRequesting, HasAsked, Reached}
+use Rattle.erst_client.specs.Reaching.{steps_for, steps_after, Runs, Passes, IsRequesting, Reached}
 use Rattle.erst_client.proofs.RequestLemmas.{asks_first}
 use Rattle.erst_client.proofs.SequenceLemmas.{waiting-start, waiting-on, waiting-late}
 

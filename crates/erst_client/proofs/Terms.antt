@@ -1,5 +1,5 @@
 -- Parts of a command, as proofs name them.
-use Rattle.std.specs.Prelude.{ℕ, ◌==◌, if◌then◌else◌, List, [], ◌∷◌, slice_get, slice_index, nat_lt, not, bit_and, Result, Ok, Err, ◌-◌, Option, Some, None, ◌^◌, ◌≡◌, ◌*◌, IfErr}
+use Rattle.std.specs.Prelude.{ℕ, ◌==◌, if◌then◌else◌, List, [], ◌∷◌, slice_get, slice_index, nat_lt, not, bit_and, Result, Ok, Err, ◌-◌, Option, Some, None, ◌^◌, IfErr}
 use Rattle.erst_entries.specs.declared.actions.Action.TheVariants.{GetExecuteOperationTimings}
 use Rattle.erst_client.specs.declared.requests.Request.{Request}
 use Rattle.erst_entries.specs.Layout.{Erst}

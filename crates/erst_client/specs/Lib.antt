@@ -8,4 +8,6 @@ pub mod Waiting
 pub mod Stages
 pub mod Reaching
 pub mod Positions
+pub mod Bounds
+pub mod Writing
 pub mod Steps

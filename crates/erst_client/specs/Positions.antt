@@ -1,6 +1,6 @@
 -- A command that makes no access itself: where it begins, what it does without an access, which access it tells, and how it goes
 -- on once that was answered.
-use Rattle.std.specs.Prelude.{◌≡◌, ℕ, ◌&&◌, Bool, true, false, List, Option, Some, None, Result, Ok, Err}
+use Rattle.std.specs.Prelude.{◌≡◌, ℕ, ◌&&◌, Bool, true, false, List, Option, Some, None, Result, Ok}
 use Rattle.apei_space.specs.declared.faults.SpaceFault.{SpaceFault}
 use Rattle.apei_space.specs.Calls.{Call}
 use Rattle.erst_entries.specs.declared.entries.Entry.{Entry}
@@ -9,7 +9,7 @@ use Rattle.erst_entries.specs.Programs.{Listed, program_of}
 use Rattle.erst_interp.specs.declared.demands.Demand.{Demand}
 use Rattle.erst_interp.specs.declared.demands.Demand.TheVariants.{Pause}
 use Rattle.erst_interp.specs.declared.states.RunState.{RunState}
-use Rattle.erst_interp.specs.declared.states.RunState.TheVariants.{Ready, Awaiting, Ended}
+use Rattle.erst_interp.specs.declared.states.RunState.TheVariants.{Awaiting, Ended}
 use Rattle.erst_interp.specs.declared.stops.RunStop.{RunStop}
 use Rattle.erst_interp.specs.Demands.{call_of}
 use Rattle.erst_interp.specs.Told.{first_state, demanded, answered, is_sound_state, Comes, Stands}
@@ -18,7 +18,7 @@ use Rattle.erst_client.specs.declared.positions.Position.{Position}
 use Rattle.erst_client.specs.declared.requests.Request.{Request}
 use Rattle.erst_client.specs.declared.stages.Command.{Command}
 use Rattle.erst_client.specs.declared.stages.Stage.{Stage}
-use Rattle.erst_client.specs.declared.stages.Stage.TheVariants.{Requesting, Checking, Waiting, Judging, Ending, Done}
+use Rattle.erst_client.specs.declared.stages.Stage.TheVariants.{Checking, Waiting, Done}
 use Rattle.erst_client.specs.Stages.{request_for, turned, is_bounded}
 use Rattle.erst_client.specs.Reaching.{steps_for, steps_after, Passes, Reached}
 

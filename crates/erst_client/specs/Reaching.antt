@@ -1,6 +1,6 @@
 -- A command over any space, stage by stage: `allows` relates the space before a call, the call with its answer, and the space after
 -- it.
-use Rattle.std.specs.Prelude.{◌≡◌, ℕ, List, ◌∷◌, Option, Some, None, Result, Ok, Err}
+use Rattle.std.specs.Prelude.{◌≡◌, ℕ, List, ◌∷◌, Option, Some, None, Result, Ok}
 use Rattle.apei_space.specs.Calls.{Call, Wait}
 use Rattle.erst_entries.specs.declared.entries.Entry.{Entry}
 use Rattle.erst_interp.specs.declared.stops.RunStop.{RunStop}

@@ -17,7 +17,7 @@ use erst_entries::{Action, ErstTable};
 use erst_interp::Budget;
 
 /// Where a record is marked as one in persistent storage (UEFI 2.8, N.2.1).
-const MARK_AT: u64 = 108;
+pub const MARK_AT: u64 = 108;
 
 /// Puts a record into the range, marked, and has the firmware write it.
 #[tactic(auto, using(crate::proofs::Rules::commands))]
@@ -39,7 +39,7 @@ pub fn write_record<S: Space>(
 }
 
 /// Why bytes are not written.
-fn refusal(bytes: &[u8], range: u64) -> Option<ClientError>
+pub fn refusal(bytes: &[u8], range: u64) -> Option<ClientError>
     ensures { result ≡ write_refusal bytes.now range }
 {
     let len = match Record::decode(bytes) {

@@ -11,9 +11,12 @@ mod positions;
 mod requests;
 mod sequences;
 mod stages;
+mod writing;
 
+pub use attaching::FoundRange;
 pub use client::Client;
 pub use errors::{AttachError, ClientError};
-pub use laws::a_told_command_is_a_sequence;
+pub use laws::{a_told_command_ends, a_told_command_is_a_sequence, a_told_write_is_a_write};
 pub use positions::Position;
-pub use stages::{Command, Stage};
+pub use stages::{Command, Part, Stage};
+pub use writing::{WriteDemand, Writing};
