@@ -1,24 +1,27 @@
 -- How a run ends that looks at a file.
-use Rattle.std.proofs.Common.{◌≡◌, ◌∙◌, ℕ, ◌-◌, ◌*◌, ◌≤◌, inr, Bool, true, false, cond, List, [], ◌++◌, length, take, drop, min, replicate, Option, Some, None, IfSome, Ok, Err, refl, sym, ap, subst, arith}
+use Rattle.std.proofs.Common.{◌≡◌, ◌∙◌, ℕ, ◌-◌, ◌*◌, ◌≤◌, inr, Bool, true, false, cond, List, [], ◌++◌, length, take, drop, min, replicate, Option, Some, None, IfSome, IfOk, Result, Ok, Err, String, Global, string_bytes, refl, sym, ap, subst, arith}
 use Rattle.std.proofs.Math.Seq.{take-length}
 use Rattle.std.proofs.Math.Nat.{min_comm}
 use Rattle.std.proofs.lemmas.Bool.{le-leb}
 use Rattle.std.proofs.lemmas.List.{append-nil, length-take, take_all, take_min}
 use Rattle.std.specs.Prelude.{MatchResult}
 use Rattle.std.specs.Io.KnownBytes.{Appends}
+use Rattle.std.specs.declared.alloc.AllocError.{AllocError}
 use Rattle.flash_model.specs.declared.geometry.Geometry.{Geometry}
 use Rattle.image_survey.specs.Headers.{IsFirstSector}
 use Rattle.image_survey.specs.declared.header.FirstSector.{FirstSector}
-use Rattle.apei_look.specs.Endings.{EndsBy}
+use Rattle.apei_look.specs.Endings.{EndsBy, IsAll, IsTold}
 use Rattle.apei_look.specs.Entries.{Entry, IsBeginning, IsFileOf}
 use Rattle.apei_look.specs.Looks.{flash_in, IsFileLook, IsFlashLook, IsGiven, IsLook, IsLookAt, IsLookBy, IsLookOf, IsShow, IsTaken, IsWithin}
 use Rattle.apei_look.specs.Places.{file_size, flash_at}
-use Rattle.apei_look.specs.Refusals.{ended_as, length_checked, most_of}
+use Rattle.apei_look.specs.Refusals.{ended_as, length_checked, most_of, named_as}
 use Rattle.apei_look.specs.declared.image_file.FileFault.TheVariants.{Unreadable, Missing, NoFile, Held}
 use Rattle.apei_look.specs.declared.options.Options.{Options}
 use Rattle.apei_look.specs.declared.options.Show.{Show}
 use Rattle.apei_look.specs.declared.status.Status.{Status}
-use Rattle.apei_look.specs.declared.status.Status.TheVariants.{Done, Words, SinkFault, File, BadGeometry, Length, Unread, Memory, NoRecord}
+use Rattle.apei_look.specs.declared.status.Status.TheVariants.{Done, Words, SinkFault, File, BadGeometry, Length, Memory, NoRecord}
+use Rattle.apei_look.specs.declared.status.Status.TheVariants as statuses
+use Rattle.apei_look.specs.declared.unread.Unread.{Unread}
 
 -- nothing was added
 added_nothing : (w : Option (List ℕ)) → Appends w w []
@@ -33,7 +36,7 @@ said_nothing P b a status e p = ([], subst (λ w. Appends b w []) (sym e) (added
 pub ends_silent : (P : List ℕ → Status → Type 0) (b a : Option (List ℕ)) (status : Status) → a ≡ b → P [] status → EndsBy P b a status
 ends_silent P b a Memory e p = e
 ends_silent P b a (File Unreadable) e p = e
-ends_silent P b a SinkFault e p = tt
+ends_silent P b a SinkFault e p = ([], SinkFault, p, (0, subst (λ w. Appends b w []) (sym e) (added_nothing b)))
 ends_silent P b a Done e p = said_nothing P b a Done e p
 ends_silent P b a (Words error) e p = said_nothing P b a (Words error) e p
 ends_silent P b a (File Missing) e p = said_nothing P b a (File Missing) e p
@@ -41,24 +44,24 @@ ends_silent P b a (File NoFile) e p = said_nothing P b a (File NoFile) e p
 ends_silent P b a (File Held) e p = said_nothing P b a (File Held) e p
 ends_silent P b a BadGeometry e p = said_nothing P b a BadGeometry e p
 ends_silent P b a (Length found wanted) e p = said_nothing P b a (Length found wanted) e p
-ends_silent P b a (Unread unread) e p = said_nothing P b a (Unread unread) e p
+ends_silent P b a (statuses.Unread unread) e p = said_nothing P b a (statuses.Unread unread) e p
 ends_silent P b a (NoRecord id) e p = said_nothing P b a (NoRecord id) e p
 
 -- an ending of one kind is one of a kind that follows from it
 pub ends_weaker : (P Q : List ℕ → Status → Type 0) (b a : Option (List ℕ)) (status : Status)
-    → ((said : List ℕ) → P said status → Q said status) → EndsBy P b a status → EndsBy Q b a status
+    → ((said : List ℕ) (ending : Status) → P said ending → Q said ending) → EndsBy P b a status → EndsBy Q b a status
 ends_weaker P Q b a Memory f h = h
 ends_weaker P Q b a (File Unreadable) f h = h
-ends_weaker P Q b a SinkFault f h = h
-ends_weaker P Q b a Done f h = (h.0, h.1, f h.0 h.2)
-ends_weaker P Q b a (Words error) f h = (h.0, h.1, f h.0 h.2)
-ends_weaker P Q b a (File Missing) f h = (h.0, h.1, f h.0 h.2)
-ends_weaker P Q b a (File NoFile) f h = (h.0, h.1, f h.0 h.2)
-ends_weaker P Q b a (File Held) f h = (h.0, h.1, f h.0 h.2)
-ends_weaker P Q b a BadGeometry f h = (h.0, h.1, f h.0 h.2)
-ends_weaker P Q b a (Length found wanted) f h = (h.0, h.1, f h.0 h.2)
-ends_weaker P Q b a (Unread unread) f h = (h.0, h.1, f h.0 h.2)
-ends_weaker P Q b a (NoRecord id) f h = (h.0, h.1, f h.0 h.2)
+ends_weaker P Q b a SinkFault f h = (h.0, h.1, f h.0 h.1 h.2, h.3)
+ends_weaker P Q b a Done f h = (h.0, h.1, f h.0 Done h.2)
+ends_weaker P Q b a (Words error) f h = (h.0, h.1, f h.0 (Words error) h.2)
+ends_weaker P Q b a (File Missing) f h = (h.0, h.1, f h.0 (File Missing) h.2)
+ends_weaker P Q b a (File NoFile) f h = (h.0, h.1, f h.0 (File NoFile) h.2)
+ends_weaker P Q b a (File Held) f h = (h.0, h.1, f h.0 (File Held) h.2)
+ends_weaker P Q b a BadGeometry f h = (h.0, h.1, f h.0 BadGeometry h.2)
+ends_weaker P Q b a (Length found wanted) f h = (h.0, h.1, f h.0 (Length found wanted) h.2)
+ends_weaker P Q b a (statuses.Unread unread) f h = (h.0, h.1, f h.0 (statuses.Unread unread) h.2)
+ends_weaker P Q b a (NoRecord id) f h = (h.0, h.1, f h.0 (NoRecord id) h.2)
 
 -- what is said of a file of another length
 abbrev Ended : (P : List ℕ → Status → Type 0) (held size : ℕ) (said : List ℕ) → Status → Type 0
@@ -73,7 +76,7 @@ pub ends_ended : (P : List ℕ → Status → Type 0) (b a : Option (List ℕ)) 
     → EndsBy P b a shown → EndsBy (Ended P held size) b a (ended_as shown held size)
 ends_ended P b a held size Memory h = h
 ends_ended P b a held size (File Unreadable) h = h
-ends_ended P b a held size SinkFault h = h
+ends_ended P b a held size SinkFault h = (h.0, ended_as h.1 held size, (h.1, h.2, refl), h.3)
 ends_ended P b a held size Done h = ends_chosen (Ended P held size) b a _ held size (h.0, h.1, (Done, h.2, refl))
 ends_ended P b a held size (Words error) h = (h.0, h.1, (Words error, h.2, refl))
 ends_ended P b a held size (File Missing) h = (h.0, h.1, (File Missing, h.2, refl))
@@ -81,7 +84,7 @@ ends_ended P b a held size (File NoFile) h = (h.0, h.1, (File NoFile, h.2, refl)
 ends_ended P b a held size (File Held) h = (h.0, h.1, (File Held, h.2, refl))
 ends_ended P b a held size BadGeometry h = (h.0, h.1, (BadGeometry, h.2, refl))
 ends_ended P b a held size (Length found wanted) h = (h.0, h.1, (Length found wanted, h.2, refl))
-ends_ended P b a held size (Unread unread) h = (h.0, h.1, (Unread unread, h.2, refl))
+ends_ended P b a held size (statuses.Unread unread) h = (h.0, h.1, (statuses.Unread unread, h.2, refl))
 ends_ended P b a held size (NoRecord id) h = (h.0, h.1, (NoRecord id, h.2, refl))
 
 -- a flash that was shown
@@ -139,14 +142,14 @@ flash_shown None show guessed given geometry size image b a status regular read 
 flash_shown (Some known) show guessed given geometry size image b a status regular read within taken fits h =
     let same = all_bytes known size image regular read in
     ends_weaker (IsLookBy show false geometry size image) (IsFlashLook show guessed given known.bytes) b a status
-    (λ said look. within_ok _ known.bytes (most_of guessed given) said status
+    (λ said ending look. within_ok _ known.bytes (most_of guessed given) said ending
     (checked_ok (length known.bytes) (most_of guessed given) (subst (λ n. n ≤ most_of guessed given) regular.sized within)) (
       geometry,
       subst (λ bytes. IsTaken guessed bytes given geometry) same taken,
-      within_ok _ known.bytes (geometry.slot_size * geometry.slots) said status
+      within_ok _ known.bytes (geometry.slot_size * geometry.slots) said ending
           (fits ∙ ap (λ n. length_checked n (geometry.slot_size * geometry.slots)) regular.sized)
-          (subst (λ bytes. IsLookBy show false geometry (length known.bytes) bytes said status) same
-          (subst (λ n. IsLookBy show false geometry n image said status) regular.sized look)),
+          (subst (λ bytes. IsLookBy show false geometry (length known.bytes) bytes said ending) same
+          (subst (λ n. IsLookBy show false geometry n image said ending) regular.sized look)),
     )) h
 
 -- the first bytes of a file
@@ -175,7 +178,7 @@ medium_shown (Some known) show geometry size most bytes b a status regular whole
     ap (λ bytes. flash_in true geometry bytes) (first_bytes known size most bytes regular read ∙ ap (λ most. take most known.bytes) whole)
     ∙ ap (λ filled. drop (flash_at true geometry) filled) (same_fill n known.bytes) in
     ends_weaker (IsLookBy show true geometry size bytes) (IsLookBy show true geometry (length known.bytes) known.bytes) b a status
-    (λ said look. subst (λ held. IsLookBy show true geometry held known.bytes said status) regular.sized
+    (λ said ending look. subst (λ held. IsLookBy show true geometry held known.bytes said ending) regular.sized
     (look.0, subst (λ flash. IsShow show true geometry size flash said look.0) same look.1, look.2)) h
 
 -- what a first sector says of a file
@@ -187,7 +190,7 @@ pub look_of : (content : Option Entry) (options : Options) (given : Geometry) (s
 look_of None options given size beginning first b a status regular read says h = tt
 look_of (Some known) options given size beginning first b a status regular read says h =
     ends_weaker (IsLookOf first options.show options.guess given known.bytes) (IsFileLook options given known.bytes) b a status
-    (λ said look. (first, subst (λ bytes. IsFirstSector bytes first) (first_bytes known size 64 beginning regular read) says, look)) h
+    (λ said ending look. (first, subst (λ bytes. IsFirstSector bytes first) (first_bytes known size 64 beginning regular read) says, look)) h
 
 -- what is said of a file that has so many bytes
 pub of_size : (content : Option Entry) (P : ℕ → List ℕ → Status → Type 0) (size : ℕ) (b a : Option (List ℕ)) (status : Status)
@@ -202,7 +205,7 @@ pub shown_at : (entry content : Option Entry) (options : Options) (given : Geome
 shown_at None content options given size b a status same regular h = tt
 shown_at (Some known) content options given size b a status same regular h =
     ends_weaker (IsFileLook options given known.bytes) (IsLookAt options given known) b a status
-    (λ said look. inr (subst (λ n. IsFileOf n known) regular.sized regular, look))
+    (λ said ending look. inr (subst (λ n. IsFileOf n known) regular.sized regular, look))
     (subst (λ content. IfSome content (λ known. EndsBy (IsFileLook options given known.bytes) b a status)) same h)
 
 -- a geometry within the limits
@@ -212,4 +215,33 @@ pub look_given : (entry : Option Entry) (options : Options) (given : Geometry) (
 look_given None options given b a answered status same is_given h = tt
 look_given (Some known) options given b a answered status same is_given h =
     subst (λ status. EndsBy (IsLook options known) b a status) same
-    (ends_weaker (IsLookAt options given known) (IsLook options known) b a answered (λ said look. inr (given, is_given, look)) h)
+    (ends_weaker (IsLookAt options given known) (IsLook options known) b a answered (λ said ending look. inr (given, is_given, look)) h)
+
+-- what is said of a medium that is not shown
+said_unread : (P : List ℕ → Status → Type 0) (bytes : List ℕ) (unread : Unread) (b a : Option (List ℕ)) (said : Status) → P bytes (statuses.Unread unread)
+    → EndsBy (IsAll bytes) b a said → EndsBy P b a (named_as said unread)
+said_unread P bytes unread b a Memory p h = h
+said_unread P bytes unread b a (File Unreadable) p h = h
+said_unread P bytes unread b a SinkFault p h = (h.0, statuses.Unread unread, subst (λ said. P said (statuses.Unread unread)) (sym h.2.0) p, h.3)
+said_unread P bytes unread b a Done p h = (h.0, h.1, subst (λ said. P said (statuses.Unread unread)) (sym h.2.0) p)
+said_unread P bytes unread b a (Words error) p h = absurd (let e : Words error ≡ Done = h.2.1 in cc)
+said_unread P bytes unread b a (File Missing) p h = absurd (let e : File Missing ≡ Done = h.2.1 in cc)
+said_unread P bytes unread b a (File NoFile) p h = absurd (let e : File NoFile ≡ Done = h.2.1 in cc)
+said_unread P bytes unread b a (File Held) p h = absurd (let e : File Held ≡ Done = h.2.1 in cc)
+said_unread P bytes unread b a BadGeometry p h = absurd (let e : BadGeometry ≡ Done = h.2.1 in cc)
+said_unread P bytes unread b a (Length found wanted) p h = absurd (let e : Length found wanted ≡ Done = h.2.1 in cc)
+said_unread P bytes unread b a (statuses.Unread other) p h = absurd (let e : statuses.Unread other ≡ Done = h.2.1 in cc)
+said_unread P bytes unread b a (NoRecord id) p h = absurd (let e : NoRecord id ≡ Done = h.2.1 in cc)
+
+pub told_unread : (P : List ℕ → Status → Type 0) (bytes : List ℕ) (text : Result (String Global) AllocError) (unread : Unread) (b a : Option (List ℕ)) (said : Status)
+    → IfOk text (λ words. string_bytes words ≡ bytes) → P bytes (statuses.Unread unread) → IsTold text b a said → EndsBy P b a (named_as said unread)
+told_unread P bytes (Ok words) unread b a said is p told = said_unread P (string_bytes words) unread b a said (subst (λ xs. P xs (statuses.Unread unread)) (sym is) p) told
+told_unread P bytes (Err error) unread b a said is p told = subst (λ status. EndsBy P b a (named_as status unread)) (sym told.0) told.1
+
+-- a text that is shown
+pub told_shown : (P : List ℕ → Status → Type 0) (Q : List ℕ → Type 0) (text : Result (String Global) AllocError) (b a : Option (List ℕ)) (status : Status)
+    → ((said : List ℕ) → Q said → P said Done) → IfOk text (λ words. Q (string_bytes words)) → IsTold text b a status → EndsBy P b a status
+told_shown P Q (Ok words) b a status shown is told =
+    ends_weaker (IsAll (string_bytes words)) P b a status
+    (λ said ending all. subst (λ e. P said e) (sym all.1) (subst (λ xs. P xs Done) (sym all.0) (shown (string_bytes words) is))) told
+told_shown P Q (Err error) b a status shown is told = subst (λ status. EndsBy P b a status) (sym told.0) told.1

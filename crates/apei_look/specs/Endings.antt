@@ -1,5 +1,5 @@
 -- How a run ends, by what it wrote.
-use Rattle.std.specs.Prelude.{◌≡◌, ℕ, List, ⊤, Option, Result, Ok, Err, String, string_bytes}
+use Rattle.std.specs.Prelude.{◌≡◌, ℕ, List, take, Option, Result, Ok, Err, String, string_bytes}
 use Rattle.std.specs.Io.KnownBytes.{Appends}
 use Rattle.std.specs.declared.alloc.AllocError.{AllocError}
 use Rattle.std.specs.declared.alloc.Global.{Global}
@@ -8,12 +8,16 @@ use Rattle.apei_look.specs.declared.image_file.FileFault.TheVariants.{Unreadable
 use Rattle.apei_look.specs.declared.status.Status.{Status}
 use Rattle.apei_look.specs.declared.status.Status.TheVariants.{Done, SinkFault, File, Memory}
 
--- bytes were added to those that are written, as are said with this ending; without memory, or where the file can't be
--- read, none were added; where the output fails it is not known which
+-- the first ones of some bytes were added to those that are written, and nothing else
+abbrev pub Begins : (bytes : List ℕ) (before after : Option (List ℕ)) → Type 0
+Begins bytes before after = (n : ℕ) × Appends before after (take n bytes)
+
+-- bytes were added to those that are written, as are said with this ending. Without memory, or where the file can't be
+-- read, none were added. Where the output fails, the first ones were of those that another ending would have said
 abbrev pub EndsBy : (IsSaid : List ℕ → Status → Type 0) (before after : Option (List ℕ)) → Status → Type 0
 EndsBy IsSaid before after Memory = after ≡ before
 EndsBy IsSaid before after (File Unreadable) = after ≡ before
-EndsBy IsSaid before after SinkFault = ⊤
+EndsBy IsSaid before after SinkFault = (said : List ℕ) × (other : Status) × IsSaid said other × Begins said before after
 EndsBy IsSaid before after status = (said : List ℕ) × Appends before after said × IsSaid said status
 
 -- a run ends by a fault of the system only where one was counted

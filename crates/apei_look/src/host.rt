@@ -1,8 +1,9 @@
 // The system as a run meets it: files, and standard output.
-ghost use Rattle.std.specs.Prelude.{◌≡◌, ℕ, List, Option, None, length, IfOk, OnOk};
+ghost use Rattle.std.specs.Prelude.{◌≡◌, ℕ, List, Option, None, length, IfOk, OnOk, OnErr};
 ghost use Rattle.std.specs.Io.KnownBytes.{Appends};
 ghost use Rattle.base_model.specs.Faults.{HasCause};
 ghost use Rattle.apei_look.specs.Answers.{locked_by, size_by, IsFoundBy};
+ghost use Rattle.apei_look.specs.Endings.{Begins};
 ghost use Rattle.apei_look.specs.Entries.{Entry, IsBeginning, IsFound, IsLocked, IsSize};
 
 use std::fs::{File, Metadata, TryLockError};
@@ -70,6 +71,7 @@ pub(crate) trait Host {
     /// Writes to standard output.
     fn write(&mut self, bytes: &[u8]) -> io::Result<()>
         ensures written { OnOk result (Appends (written self.old) (written self.new) bytes.now) }
+        ensures begun { OnErr result (Begins bytes.now (written self.old) (written self.new)) }
         ensures cause { HasCause (faults self.old) (faults self.new) result };
 }
 
