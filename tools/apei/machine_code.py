@@ -251,7 +251,7 @@ class Code:
         """The names of the instructions that use vector or floating-point registers, and how many there are of each."""
         found: dict[str, int] = {}
         for it in self.reached:
-            if self.arch.vector.search(re.sub(r"<.*?>", "", it.operands)):
+            if self.arch.kind(it) == "next" and self.arch.vector.search(it.operands):
                 found[it.name] = found.get(it.name, 0) + 1
         return dict(sorted(found.items()))
 

@@ -1,6 +1,6 @@
 """Builds the library's archives.
 
-    tools/run archives FOLDER                  each of them, over what `rt ci` left: llvm.a, general.a and rattle.a
+    tools/run archives FOLDER                  each of them, over what `rt ci` left: llvm.a, general.a and rattle.a, and arm.a for ARM64
     tools/run archives FILE --KIND ..          one of them, over what tools/build left; ./libapei calls it
 
 The words of a kind are --compiler=llvm or rattle, --target=x86-64 or aarch64, --cpu=NAME, and --registers=all or general.
@@ -20,12 +20,13 @@ from pathlib import Path
 from typing import NoReturn
 
 from apei import TOP
-from apei.archives import COMPILERS, CRATE, TRIPLES, X86, Archives, Kind, NotBuilt, kit, libraries, rlib
+from apei.archives import ARM, COMPILERS, CRATE, TRIPLES, X86, Archives, Kind, NotBuilt, kit, libraries, rlib
 from apei.harness import scratch
 
 # The archives that the gate tries, by the processors that the crate is proved for.
 TRIED = {
     X86: {"llvm": Kind(), "general": Kind(vectors=False), "rattle": Kind("rattle")},
+    ARM: {"arm": Kind(target=ARM)},
 }
 
 

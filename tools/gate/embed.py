@@ -7,6 +7,7 @@ and formats a medium. Then power is lost in each change of its formatting and of
 in the range of that change: nothing, all of it, zeros, and 0xA5 in each byte. Each medium that is left is opened again: one whose formatting
 was cut is refused, or is empty; any other has the records from before the command that was cut or those after it, and each record that was
 told as stored. All archives leave the same medium. The names that an archive wants of its program are those that docs/EMBED.md lists.
+A linker drops the calls that a program does not use, unless all code is one section.
 Programs of tests/embed count what an archive takes of memory and gives back, and try the arena of glue/. Then the Rust crate's tests and its
 example run, where cargo is there.
 
@@ -33,6 +34,8 @@ from apei.machine_code import Code
 
 TEARS = ("nothing", "whole", "zeros", "marks")
 WANTED = {"memcpy", "memmove", "memset", "memcmp", "rattle_alloc", "rattle_realloc", "rattle_dealloc"}
+# The archives whose code is one section.
+ONE_SECTION = {"rattle"}
 WARNINGS = ("-std=c11", "-O2", "-Wall", "-Wextra", "-Wpedantic", "-Werror")
 # What power that was lost ends the example firmware with.
 CUT = 9
@@ -85,7 +88,7 @@ ARM = System("aarch64-linux-gnu-", ("qemu-aarch64", "-L", "/usr/aarch64-linux-gn
 
 
 def system_of(archive: Path) -> System:
-    return ARM if "aarch64" in call("objdump", "-f", archive).stdout else HERE
+    return HERE if "x86-64" in call("objdump", "-f", archive).stdout else ARM
 
 
 def built(system: System, archive: Path, folder: Path) -> Path:
@@ -110,6 +113,15 @@ def tries_memory(system: System, archive: Path, folder: Path, name: str) -> str 
     """What is wrong with the memory that an archive takes and gives back; None where nothing is."""
     done = system.run(system.linked(archive, folder / name, *(TOP / it for it in MEMORY[name])))
     return f"{archive}: {name}: {done.stderr}" if done.returncode else None
+
+
+def drops_calls(system: System, folder: Path) -> bool:
+    """Whether a program that checks a table, and has no device, is linked without the calls on a device."""
+    program = folder / "check"
+    words: list[str | Path] = ["-Wl,--gc-sections", TOP / "tests" / "embed" / "check.c", folder / "libapei.a"]
+    make(system.cc, *WARNINGS, f"-I{TOP / 'include'}", *words, "-o", program)
+    names = call(f"{system.prefix}nm", program).stdout
+    return system.run(program).returncode == 0 and "apei_c_check" in names and "apei_c_erst" not in names
 
 
 def unknown_names(system: System, archive: Path) -> set[str]:
@@ -277,6 +289,8 @@ def try_archives(archives: list[Path], tally: Tally) -> None:
             firmwares.append(Firmware(system, built(system, archive, folder), folder))
             unknown = unknown_names(system, archive)
             tally.expect(not unknown, f"{archive} wants {unknown}")
+            is_one = archive.stem in ONE_SECTION
+            tally.expect(is_one or drops_calls(system, folder), f"{archive}: calls that are not used are not dropped")
             for name in MEMORY:
                 wrong = tries_memory(system, archive, folder, name)
                 tally.expect(wrong is None, wrong or "")
