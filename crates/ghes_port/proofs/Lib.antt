@@ -11,3 +11,4 @@ pub mod RunLemmas
 pub mod RegisterLemmas
 pub mod TableLemmas
 pub mod SetupLemmas
+pub mod OpenedLemmas
