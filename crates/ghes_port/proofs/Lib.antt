@@ -12,3 +12,4 @@ pub mod RegisterLemmas
 pub mod TableLemmas
 pub mod SetupLemmas
 pub mod OpenedLemmas
+pub mod SharedLemmas

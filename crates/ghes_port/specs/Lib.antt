@@ -7,3 +7,4 @@ pub mod Readers
 pub mod Setups
 pub mod Tables
 pub mod Several
+pub mod Shared

@@ -7,6 +7,7 @@ ghost use Rattle.ghes_port.specs.Sound.{IsSource};
 ghost use Rattle.ghes_port.specs.Setups.{begun, setups_fault, maps_meet};
 ghost use Rattle.ghes_port.specs.Memories.{bytes_from};
 ghost use Rattle.ghes_port.specs.Readers.{World, IsFirst, Leads, IsPrefix, IsNotified, IsBusy, IsApart, restarted, SameParts, IsOffParts, memory_after};
+ghost use Rattle.ghes_port.specs.Shared.{Shared, Side, Passes, AreFirst, IsAlone};
 
 /// Whatever happens, the guest took the first of the submitted blocks, whole, each once and in order.
 pub fn a_guest_takes_a_prefix()
@@ -41,6 +42,13 @@ pub fn an_access_stays_inside()
 pub fn an_access_of_another_is_elsewhere()
     ensures { (one other : SourceState) (memory : ℕ → ℕ) → IsSource other → maps_meet one.map other.map ≡ false
         → SameParts one.map memory (memory_after (told other) memory) }
+{}
+
+/// Several sources over one memory, each with its guest, in any order of what happens to them: what happened to each is what may happen to it
+/// alone, so all laws on one source hold of each.
+pub fn each_source_is_as_if_alone()
+    ensures { (first last : Shared) → AreFirst first → Passes first last → (i : ℕ) (side : Side)
+        → slice_get last.sides i ≡ Some side → IsAlone first last i side }
 {}
 
 /// Sources that are opened are as a first world wants them, and no two of them have a byte in common.

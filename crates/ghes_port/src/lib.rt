@@ -20,8 +20,8 @@ pub use accesses::{Access, Outcome};
 pub use errors::{OpenError, SubmitError};
 pub use laws::{
     a_guest_takes_a_prefix, a_reset_is_a_beginning, an_access_of_another_is_elsewhere,
-    an_access_stays_inside, each_block_is_notified_once, nothing_is_overwritten,
-    opened_sources_are_apart,
+    an_access_stays_inside, each_block_is_notified_once, each_source_is_as_if_alone,
+    nothing_is_overwritten, opened_sources_are_apart,
 };
 pub use maps::{AckRegister, SourceMap};
 pub use setups::Setup;
