@@ -8,3 +8,4 @@ pub mod Setups
 pub mod Tables
 pub mod Several
 pub mod Shared
+pub mod Boot

@@ -7,6 +7,8 @@ ghost use Rattle.ghes_port.specs.Sound.{IsSource};
 ghost use Rattle.ghes_port.specs.Setups.{begun, setups_fault, maps_meet};
 ghost use Rattle.ghes_port.specs.Memories.{bytes_from};
 ghost use Rattle.ghes_port.specs.Readers.{World, IsFirst, Leads, IsPrefix, IsNotified, IsBusy, IsApart, restarted, SameParts, IsOffParts, memory_after};
+ghost use Rattle.ghes_block.specs.Region.{IsListOf};
+ghost use Rattle.ghes_port.specs.Boot.{BootWorld, BootLeads, IsBootFirst, IsCleared, MayBeLeft};
 ghost use Rattle.ghes_port.specs.Shared.{Shared, Side, Passes, AreFirst, IsAlone};
 
 /// Whatever happens, the guest took the first of the submitted blocks, whole, each once and in order.
@@ -58,4 +60,12 @@ pub fn opened_sources_are_apart()
     ensures pairs { (setups : List AnySetup) (i j : ℕ) (one other : SourceState) → setups_fault [] 0 setups ≡ None
         → i ≢ j → slice_get (map begun setups) i ≡ Some one → slice_get (map begun setups) j ≡ Some other
         → maps_meet one.map other.map ≡ false }
+{}
+
+/// What power lost at any moment leaves of a boot error region that was cleared: the list of the blocks whose block status was written, each
+/// whole and in order.
+pub fn a_boot_region_keeps_its_blocks()
+    ensures { (first last : BootWorld) (memory : ℕ → ℕ) → IsBootFirst first → BootLeads first last
+        → IsCleared last.boot.stage → MayBeLeft last memory
+        → IsListOf last.laid (bytes_from memory last.boot.at last.boot.len) }
 {}
