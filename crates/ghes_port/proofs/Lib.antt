@@ -10,4 +10,7 @@ pub mod NoticeLemmas
 pub mod RunLemmas
 pub mod RegisterLemmas
 pub mod TableLemmas
+pub mod BootLawLemmas
 pub mod SetupLemmas
+pub mod OpenedLemmas
+pub mod SharedLemmas

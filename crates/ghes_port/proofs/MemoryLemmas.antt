@@ -4,10 +4,10 @@ use Rattle.std.proofs.lemmas.Bool.{eq-eqb, ne_eqb}
 use Rattle.ghes_port.specs.Memories.{bytes_from, with_byte, with_bytes}
 use Rattle.ghes_port.specs.Readers.{AreOff}
 
-other_byte : (m : ℕ → ℕ) (at byte a : ℕ) → (a ≡ at → ⊥) → with_byte m at byte a ≡ m a
+pub other_byte : (m : ℕ → ℕ) (at byte a : ℕ) → (a ≡ at → ⊥) → with_byte m at byte a ≡ m a
 other_byte m at byte a apart = ap (λ (t : Bool). if t then byte else m a) (ne_eqb a at apart)
 
-same_byte : (m : ℕ → ℕ) (at byte : ℕ) → with_byte m at byte at ≡ byte
+pub same_byte : (m : ℕ → ℕ) (at byte : ℕ) → with_byte m at byte at ≡ byte
 same_byte m at byte = ap (λ (t : Bool). if t then byte else m at) (eq-eqb at at refl)
 
 apart_byte : (at n a : ℕ) → (a < at) ⊎ (at + suc n ≤ a) → a ≡ at → ⊥
@@ -18,7 +18,7 @@ apart_next : (at n a : ℕ) → (a < at) ⊎ (at + suc n ≤ a) → (a < suc at)
 apart_next at n a (inl below) = inl (omega (arith, below))
 apart_next at n a (inr above) = inr (omega (arith, above))
 
-far_byte : (m : ℕ → ℕ) (at : ℕ) (bytes : List ℕ) (a : ℕ) → (a < at) ⊎ (at + length bytes ≤ a) → with_bytes m at bytes a ≡ m a
+pub far_byte : (m : ℕ → ℕ) (at : ℕ) (bytes : List ℕ) (a : ℕ) → (a < at) ⊎ (at + length bytes ≤ a) → with_bytes m at bytes a ≡ m a
 far_byte m at [] a far = refl
 far_byte m at (byte ∷ bytes) a far =
     other_byte (with_bytes m (suc at) bytes) at byte a (apart_byte at (length bytes) a far) ∙ far_byte m (suc at) bytes a (apart_next at (length bytes) a far)

@@ -90,24 +90,26 @@ max_left a b = omega (arith)
 -- a register that is found is that of its structure, and its access reaches the field's last bit
 pub record Found (gas : Gas) (register : Register) : Type 0 where
   pub is : register ≡ register_of gas
+  pub offset : gas.offset < 64
   pub reach : gas.offset + gas.width ≤ bits (register_of gas).access
 
 pub found : (gas : Gas) (register : Register) → checked gas ≡ Ok register → Found gas register
-found gas register e = go (nat_lt 1 gas.space) (nat_lt 4 gas.access) (gas.width == 0) (nat_lt 64 (gas.offset + gas.width)) refl e
+found gas register e = go (nat_lt 1 gas.space) (nat_lt 4 gas.access) (gas.width == 0) (nat_lt 64 (gas.offset + gas.width)) refl refl e
   where
-    go : (a b c d : Bool) → nat_lt 64 (gas.offset + gas.width) ≡ d
+    go : (a b c d : Bool) → (gas.width == 0) ≡ c → nat_lt 64 (gas.offset + gas.width) ≡ d
         → cond {A = Result Register BadRegister} a (Err (Space gas.space)) (cond {A = Result Register BadRegister} b (Err (Access gas.access)) (cond {A = Result Register BadRegister} (c || d) (Err (Bits gas.offset gas.width)) (Ok (register_of gas)))) ≡ Ok register
         → Found gas register
-    go false false false false is e =
+    go false false false false wide is e =
         let few : gas.offset + gas.width ≤ 64 = grind (arith, nat_tests, is) in
         let most = max_few (gas.offset + gas.width) (bits_of_code gas.access) few (code_few gas.access) in
         let low = reaches (max (gas.offset + gas.width) (bits_of_code gas.access)) most in
         let left = max_left (gas.offset + gas.width) (bits_of_code gas.access) in
-        record { is = (let f : register_of gas ≡ register = cc in sym f); reach = omega (arith, low, left) }
-    go false false false true is e = absurd cc
-    go false false true d is e = absurd cc
-    go false true c d is e = absurd cc
-    go true b c d is e = absurd cc
+        let some : 0 < gas.width = grind (arith, nat_tests, wide) in
+        record { offset = omega (arith, few, some); is = (let f : register_of gas ≡ register = cc in sym f); reach = omega (arith, low, left) }
+    go false false false true wide is e = absurd cc
+    go false false true d wide is e = absurd cc
+    go false true c d wide is e = absurd cc
+    go true b c d wide is e = absurd cc
 
 -- a number that its field has room for lies within the access
 pub fits_field : (gas : Gas) (register : Register) (number : ℕ) → checked gas ≡ Ok register → number < 2 ^ gas.width → number * 2 ^ register.offset < 2 ^ bits register.access

@@ -390,12 +390,12 @@ keeps_look old is looks h =
     (subst (λ (a : ℕ). AreTogether s.map s.queue old.memory (left_of old) s.stage (if status_at a old.memory == 0 then Looks else Copies [])) (sym place)
     (looked s.map s.queue (left_of old) old.memory s.stage is h.source.good at))
 
-out_of : (old : World) (reader : Reader) → old.reader ≡ reader → IsBusy reader → Holds old → IsOutAt old.source.stage × IsOut old.source.map old.source.queue old.memory (left_of old) reader
+pub out_of : (old : World) (reader : Reader) → old.reader ≡ reader → IsBusy reader → Holds old → IsOutAt old.source.stage × IsOut old.source.map old.source.queue old.memory (left_of old) reader
 out_of old reader is busy h =
     let s : SourceState = old.source in
     is_out s.map s.queue (left_of old) old.memory s.stage reader busy (subst (λ (r : Reader). AreTogether s.map s.queue old.memory (left_of old) s.stage r) is h.together)
 
-address_out : (old : World) → IsOutAt old.source.stage → Holds old → address_in old.source.map old.memory ≡ old.source.map.block
+pub address_out : (old : World) → IsOutAt old.source.stage → Holds old → address_in old.source.map old.memory ≡ old.source.map.block
 address_out old there h = address_is old.source.map old.memory old.source.stage (begun_out old.source.stage there) h.addressed
 
 keeps_copy : (old : World) (copied : List ℕ) (n : ℕ) → old.reader ≡ Copies copied → length copied + n ≤ old.source.map.len → Holds old

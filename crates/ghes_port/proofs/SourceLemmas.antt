@@ -10,7 +10,9 @@ use Rattle.ghes_port.specs.declared.maps.SourceMap.{SourceMap}
 use Rattle.ghes_port.specs.declared.maps.AckRegister.{AckRegister}
 use Rattle.ghes_port.specs.declared.stages.Stage.{Stage}
 use Rattle.ghes_port.specs.declared.stages.Stage.TheVariants.{Hide, TellAddress, ReadFirst, SetAck, Fill, ReadAck, ClearAck, Show, Notify, Await}
-use Rattle.ghes_port.specs.Machine.{SourceState, IsGood, after, submitted, stage_after, queue_after, addressed, filled, filled_more, frees, piece_at}
+use Rattle.ghes_port.specs.declared.stages.Unacknowledged.{Unacknowledged}
+use Rattle.ghes_port.specs.declared.stages.Unacknowledged.TheVariants.{TellAgain, Forget}
+use Rattle.ghes_port.specs.Machine.{SourceState, IsGood, after, submitted, kept, reset, stage_after, queue_after, addressed, filled, filled_more, frees, piece_at}
 use Rattle.ghes_port.specs.Sound.{IsSource, IsWithin, HasBlock, HasAck, IsReached, IsPassing}
 
 -- the first piece of the oldest block, if any, begins in it
@@ -128,3 +130,10 @@ source_after s value is = record { placed = is.placed; good = good_after s.map s
 
 pub source_more : (s : SourceState) (block : List ℕ) → IsGood s.map.len block → IsSource s → IsSource (submitted s block)
 source_more s block good is = record { placed = is.placed; good = All-more (IsGood s.map.len) s.queue block is.good good; reached = reached_more s.map s.queue block s.stage good.fits.head is.reached }
+
+kept_good : (len : ℕ) (blocks : Unacknowledged) (queue : List (List ℕ)) → All (IsGood len) queue → All (IsGood len) (kept blocks queue)
+kept_good len TellAgain queue good = good
+kept_good len Forget queue good = λ k d within. absurd (omega (arith, within))
+
+pub source_reset : (blocks : Unacknowledged) (s : SourceState) → IsSource s → IsSource (reset blocks s)
+source_reset blocks s is = record { placed = is.placed; good = kept_good s.map.len blocks s.queue is.good; reached = tt }

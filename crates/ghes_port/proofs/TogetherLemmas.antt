@@ -180,21 +180,21 @@ part_is block at n = take_length n (drop at block)
     take_length (suc n) [] = refl
     take_length (suc n) (x ∷ xs) = ap (λ (ys : List ℕ). x ∷ ys) (take_length n xs)
 
-rest_length : (block : List ℕ) (at : ℕ) → length block ≤ at + 64 → length (part block at 64) ≡ length block - at
+pub rest_length : (block : List ℕ) (at : ℕ) → length block ≤ at + 64 → length (part block at 64) ≡ length block - at
 unfolding part
 rest_length block at short = rw (length-take, length-drop) (omega arith)
 
 -- the piece that is written joins those before it
-one_more : (map : SourceMap) (memory : ℕ → ℕ) (block : List ℕ) (piece : ℕ) → AreFilled map memory block (64 * piece)
-    → AreFilled map (with_bytes memory (map.block + piece_at piece) (piece_of block piece)) block (64 * piece + length (piece_of block piece))
-one_more map memory block piece so_far =
+pub one_more : (base : ℕ) (memory : ℕ → ℕ) (block : List ℕ) (piece : ℕ) → bytes_from memory (base + 4) (64 * piece) ≡ part block 4 (64 * piece)
+    → bytes_from (with_bytes memory (base + piece_at piece) (piece_of block piece)) (base + 4) (64 * piece + length (piece_of block piece)) ≡ part block 4 (64 * piece + length (piece_of block piece))
+one_more base memory block piece so_far =
     let bytes : List ℕ = piece_of block piece in
-    let at : ℕ = map.block + piece_at piece in
+    let at : ℕ = base + piece_at piece in
     let m : ℕ = length bytes in
     let new : ℕ → ℕ = with_bytes memory at bytes in
-    let place : map.block + 4 + 64 * piece ≡ at = omega (arith) in
-    two new (map.block + 4) (64 * piece) m
-    ∙ ap (λ (xs : List ℕ). xs ++ bytes_from new (map.block + 4 + 64 * piece) m) (far memory at bytes (map.block + 4) (64 * piece) (inl (omega (arith))) ∙ so_far)
+    let place : base + 4 + 64 * piece ≡ at = omega (arith) in
+    two new (base + 4) (64 * piece) m
+    ∙ ap (λ (xs : List ℕ). xs ++ bytes_from new (base + 4 + 64 * piece) m) (far memory at bytes (base + 4) (64 * piece) (inl (omega (arith))) ∙ so_far)
     ∙ ap (λ (a : ℕ). part block 4 (64 * piece) ++ bytes_from new a m) place
     ∙ ap (λ (xs : List ℕ). part block 4 (64 * piece) ++ xs) (exact memory at bytes ∙ sym (part_is block (piece_at piece) 64))
     ∙ part-append block 4 (64 * piece) m
@@ -219,10 +219,10 @@ by_last map left memory block rest piece reader false goes ends begins inside jo
     let sum : 64 * piece + length (piece_of block piece) ≡ length block - 4 = omega (arith, n, begins) in
     after_last map (block ∷ rest) left memory map.ack reader refl inside (subst (λ (k : ℕ). AreFilled map memory block k) sum joined)
 
-is_more : (n m : ℕ) → nat_lt n m ≡ true → n < m
+pub is_more : (n m : ℕ) → nat_lt n m ≡ true → n < m
 is_more n m is = elim (cases_lt n m) [ inl below ↦ below | inr above ↦ grind (arith, common_steps, is, above) ]
 
-is_less : (n m : ℕ) → nat_lt n m ≡ false → m ≤ n
+pub is_less : (n m : ℕ) → nat_lt n m ≡ false → m ≤ n
 is_less n m is = elim (cases_lt n m) [ inl below ↦ grind (arith, common_steps, is, below) | inr above ↦ above ]
 
 -- the block status is written
@@ -245,19 +245,19 @@ status_is len m at block good there =
     let short : little (part block 0 4) < 256 ^ 4 = subst (λ (k : ℕ). little (part block 0 4) < 256 ^ k) n small in
     (subst (λ (bs : List ℕ). 0 < little bs) (sym is) some, subst (λ (bs : List ℕ). little bs < 2 ^ 32) (sym is) (omega (arith, short)))
 
-shown_block : (map : SourceMap) (memory : ℕ → ℕ) (block : List ℕ) → 20 ≤ length block → AreFilled map memory block (length block - 4)
-    → bytes_from (with_bytes memory map.block (take 4 block)) map.block (length block) ≡ block
+pub shown_block : (base : ℕ) (memory : ℕ → ℕ) (block : List ℕ) → 20 ≤ length block → bytes_from memory (base + 4) (length block - 4) ≡ part block 4 (length block - 4)
+    → bytes_from (with_bytes memory base (take 4 block)) base (length block) ≡ block
 unfolding part
-shown_block map memory block low all =
+shown_block base memory block low all =
     let word : List ℕ = take 4 block in
-    let new : ℕ → ℕ = with_bytes memory map.block word in
+    let new : ℕ → ℕ = with_bytes memory base word in
     let n : length word ≡ 4 = rw length-take (omega (arith, low)) in
     let sum : length block ≡ 4 + (length block - 4) = omega (arith, low) in
-    let first : bytes_from new map.block 4 ≡ part block 0 4 = subst (λ (k : ℕ). bytes_from new map.block k ≡ word) n (exact memory map.block word) in
-    ap (bytes_from new map.block) sum
-    ∙ two new map.block 4 (length block - 4)
-    ∙ ap (λ (xs : List ℕ). xs ++ bytes_from new (map.block + 4) (length block - 4)) first
-    ∙ ap (λ (xs : List ℕ). part block 0 4 ++ xs) (far memory map.block word (map.block + 4) (length block - 4) (inr (omega (arith, n))) ∙ all)
+    let first : bytes_from new base 4 ≡ part block 0 4 = subst (λ (k : ℕ). bytes_from new base k ≡ word) n (exact memory base word) in
+    ap (bytes_from new base) sum
+    ∙ two new base 4 (length block - 4)
+    ∙ ap (λ (xs : List ℕ). xs ++ bytes_from new (base + 4) (length block - 4)) first
+    ∙ ap (λ (xs : List ℕ). part block 0 4 ++ xs) (far memory base word (base + 4) (length block - 4) (inr (omega (arith, n))) ∙ all)
     ∙ part-append block 0 4 (length block - 4)
     ∙ part-whole block (4 + (length block - 4)) (omega (arith, low))
 
@@ -325,7 +325,7 @@ accessed map (block ∷ rest) left memory (Fill piece) reader value placed apart
     let new : ℕ → ℕ = with_bytes memory (map.block + piece_at piece) bytes in
     let inside = in_far map (block ∷ rest) left memory (map.block + piece_at piece) bytes reader (inl (omega (arith))) at.0 in
     by_last map left new block rest piece reader (nat_lt (piece_at (piece + 1)) (length block)) (is_more (piece_at (piece + 1)) (length block)) (is_less (piece_at (piece + 1)) (length block)) at.1.0
-    inside (one_more map memory block piece at.1.1)
+    inside (one_more map.block memory block piece at.1.1)
 accessed map queue left memory ReadAck reader value placed apart good read at =
     subst (λ (m : ℕ → ℕ). IsIn map queue m left reader × AreAll map m queue) (sym (read_keeps map.ack memory)) at
 accessed map queue left memory (ClearAck v) reader value placed apart good read at =
@@ -333,7 +333,7 @@ accessed map queue left memory (ClearAck v) reader value placed apart good read 
 accessed map [] left memory Show reader value placed apart good read at = absurd at.1
 accessed map (block ∷ rest) left memory Show Looks value placed apart good read at =
     let one = good 0 block (omega (arith)) in
-    let there = shown_block map memory block one.fits.head at.1 in
+    let there = shown_block map.block memory block one.fits.head at.1 in
     inl (at.0.0, there, not_acked map memory block map.ack one apart.ack at.2 there)
 accessed map (block ∷ rest) left memory Show (Copies copied) value placed apart good read at = absurd at.0
 accessed map (block ∷ rest) left memory Show Owes value placed apart good read at = absurd at.0

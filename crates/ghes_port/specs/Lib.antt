@@ -7,3 +7,5 @@ pub mod Readers
 pub mod Setups
 pub mod Tables
 pub mod Several
+pub mod Shared
+pub mod Boot

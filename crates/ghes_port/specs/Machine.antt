@@ -13,6 +13,8 @@ use Rattle.ghes_port.specs.declared.maps.SourceMap.{SourceMap}
 use Rattle.ghes_port.specs.declared.maps.AckRegister.{AckRegister}
 use Rattle.ghes_port.specs.declared.stages.Stage.{Stage}
 use Rattle.ghes_port.specs.declared.stages.Stage.TheVariants.{Hide, TellAddress, ReadFirst, SetAck, Fill, ReadAck, ClearAck, Show, Notify, Await}
+use Rattle.ghes_port.specs.declared.stages.Unacknowledged.{Unacknowledged}
+use Rattle.ghes_port.specs.declared.stages.Unacknowledged.TheVariants.{TellAgain, Forget}
 use Rattle.ghes_port.specs.declared.accesses.Access.{Access}
 use Rattle.ghes_port.specs.declared.accesses.Access.TheVariants.{Nothing as NoAccess, Read, Write, Notify as NotifyGuest}
 use Rattle.ghes_port.specs.declared.accesses.Outcome.{Outcome}
@@ -164,6 +166,14 @@ refusal s block = elim (refusal_of s.map.len block 0) [
   | Some fault ↦ Some (Bad fault)
   | None ↦ if nat_lt (length s.queue) s.places then None else Some Full
 ]
+
+-- when its guest starts again: before the first access, with the blocks that are kept
+abbrev pub kept : Unacknowledged → List (List ℕ) → List (List ℕ)
+kept TellAgain queue = queue
+kept Forget queue = []
+
+abbrev pub reset : Unacknowledged → SourceState → SourceState
+reset blocks s = record s { stage = Hide; queue = kept blocks s.queue }
 
 -- exactly one error status block, which a window of so many bytes takes
 pub record IsGood (len : ℕ) (block : List ℕ) : Type 0 where

@@ -6,9 +6,10 @@ use Rattle.ghes_port.specs.declared.maps.SourceMap.{SourceMap}
 use Rattle.ghes_port.specs.declared.maps.AckRegister.{AckRegister}
 use Rattle.ghes_port.specs.declared.stages.Stage.{Stage}
 use Rattle.ghes_port.specs.declared.stages.Stage.TheVariants.{Hide, TellAddress, Await}
+use Rattle.ghes_port.specs.declared.stages.Unacknowledged.{Unacknowledged}
 use Rattle.ghes_port.specs.Places.{index_of, octets}
 use Rattle.ghes_port.specs.Memories.{bytes_from, with_bytes}
-use Rattle.ghes_port.specs.Machine.{SourceState, Told, Nothing, Reads, Writes, Notifies, told, after, submitted, IsGood}
+use Rattle.ghes_port.specs.Machine.{SourceState, Told, Nothing, Reads, Writes, Notifies, told, after, submitted, kept, reset, IsGood}
 use Rattle.ghes_port.specs.Sound.{IsPlaced, IsSource}
 
 -- the guest looks for a block; it copies one, of which it has these bytes; it has still to acknowledge one; it has read the
@@ -133,6 +134,17 @@ pub record IsFirst (w : World) : Type 0 where
   pub taken : w.taken ≡ []
   pub submitted : w.submitted ≡ w.source.queue
   pub notices : w.notices ≡ 0
+
+-- a guest that starts again, over a memory of any bytes: what it takes and what is submitted counts from here
+abbrev pub restarted : Unacknowledged → SourceState → (ℕ → ℕ) → World
+restarted blocks source memory = record {
+  source = reset blocks source;
+  memory = memory;
+  reader = Looks;
+  taken = [];
+  submitted = kept blocks source.queue;
+  notices = 0;
+}
 
 -- the guest took the first of the submitted blocks, whole, each once and in order
 abbrev pub IsPrefix : World → Type 0

@@ -1,15 +1,16 @@
 // The firmware's side of one source.
-ghost use Rattle.std.specs.Prelude.{◌≡◌, [], ℕ, List, ◌≤◌, length, drop, IfOk, OnOk, OnErr, MatchResult, Some, None, All, vec_len, vec_capacity};
-ghost use Rattle.ghes_port.specs.Machine.{told, IsTold, after, outcome_at, refusal, submitted, IsGood};
+ghost use Rattle.std.specs.Prelude.{◌≡◌, [], ℕ, List, ◌≤◌, length, drop, IfOk, OnOk, OnErr, MatchResult, MatchBool, Some, None, All, vec_len, vec_capacity};
+ghost use Rattle.ghes_port.specs.Machine.{told, IsTold, after, outcome_at, refusal, submitted, reset, IsGood};
 ghost use Rattle.ghes_port.specs.Sound.{IsPlaced, HasBlock};
 ghost use Rattle.ghes_port.specs.Setups.{pair_fault};
 ghost use Rattle.ghes_port.specs.Queues.{IsWide};
+ghost use Rattle.ghes_port.specs.declared.stages.Stage.{Stage as AnyStage};
 
 use crate::accesses::{Access, Outcome};
 use crate::errors::{OpenError, SubmitError};
 use crate::maps::SourceMap;
 use crate::overlaps::maps_meet;
-use crate::stages::Stage;
+use crate::stages::{Stage, Unacknowledged};
 use crate::steps::{frees, next_stage, piece_done};
 use crate::writes::{ask_ack, clear_ack, hide, read_ack, set_ack, show, tell_address, write_piece};
 use apei_bytes::OutOfMemory;
@@ -163,6 +164,36 @@ impl Source {
                 Outcome::Done
             }
         }
+    }
+
+    /// A guest starts again, whatever the one before it did: the source is before its first access.
+    pub fn reset(&mut self, blocks: Unacknowledged)
+        ensures { self.new ≡ reset blocks self.old }
+    {
+        if blocks == Unacknowledged::Forget {
+            self.forget();
+        }
+        self.stage = Stage::Hide;
+    }
+
+    /// Gives the places of all blocks back.
+    fn forget(&mut self)
+        ensures { (stage : AnyStage) × (self.new ≡ record self.old { stage = stage; queue = [] }) }
+    {
+        while self.forgets_oldest() {}
+    }
+
+    /// Gives the place of the oldest block back, if there is one.
+    fn forgets_oldest(&mut self) -> bool
+        ensures { MatchBool result (HasBlock self.old.queue
+            × (self.new ≡ record self.old { stage = Stage.Fill 0; queue = drop 1 self.old.queue }))
+            ((self.old.queue ≡ []) × (self.new ≡ self.old)) }
+    {
+        if self.queue.is_empty() {
+            return false;
+        }
+        self.release();
+        true
     }
 
     /// Gives the place of the oldest block back, and goes on to the next one.

@@ -1,7 +1,7 @@
 // Several sources over one memory.
 ghost use Rattle.std.specs.Prelude.{◌≡◌, ◌⊎◌, [], ◌<◌, ◌≤◌, length, map, IfOk, OnOk, OnErr, IfErr, MatchResult, Some, None};
 ghost use Rattle.hest_sources.specs.Tables.{IsHest};
-ghost use Rattle.ghes_port.specs.Machine.{told, IsTold, after, outcome_at, refusal, submitted, IsGood};
+ghost use Rattle.ghes_port.specs.Machine.{told, IsTold, after, outcome_at, refusal, submitted, reset, IsGood};
 ghost use Rattle.ghes_port.specs.Setups.{begun, earlier_fault, setups_fault, open_fault, IsRefusal};
 ghost use Rattle.ghes_port.specs.Tables.{stated};
 ghost use Rattle.ghes_port.specs.Several.{IsAt, Becomes, IsSoundAfter, RefusesAfter, RefusesAll};
@@ -11,6 +11,7 @@ use crate::errors::{OpenError, SubmitError};
 use crate::maps::SourceMap;
 use crate::setups::{Setup, check_setup};
 use crate::source::Source;
+use crate::stages::Unacknowledged;
 use crate::table::hest;
 use std::alloc::Global;
 use std::marker::Model;
@@ -93,6 +94,14 @@ impl Sources {
         ensures outcome { IsAt index self.old.list (λ old. result ≡ outcome_at old.map old.queue old.stage value) }
     {
         self.list[index].done(value)
+    }
+
+    /// A guest starts again: a source is before its first access.
+    pub fn reset(&mut self, index: usize, blocks: Unacknowledged)
+        requires { index < length self.old.list }
+        ensures { Becomes index self.old self.new (λ old. reset blocks old) }
+    {
+        self.list[index].reset(blocks);
     }
 }
 

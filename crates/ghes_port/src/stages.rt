@@ -24,3 +24,12 @@ pub enum Stage {
     /// It looks whether the guest has acknowledged.
     Await,
 }
+
+/// What becomes of the blocks that a guest has not acknowledged when it starts again.
+#[derive(Clone, Copy, Debug, PartialEq, Eq)]
+pub enum Unacknowledged {
+    /// They are told again, the oldest one first.
+    TellAgain,
+    /// They are forgotten.
+    Forget,
+}
