@@ -78,6 +78,8 @@ KNOWN = [
     Meets("explore -", COUNT, READS, needs_strace=True),
     Meets("explore --help", b"", WRITES),
     Meets("build", b"", (70,) * 7),
+    Meets("release", b"", (2,) * 7),
+    Meets("release --help", b"", WRITES),
     Meets("install", b"", (2,) * 7),
     Meets("install --what", b"", WRITES),
     Meets("install --prefix=script/x --without-library", b"", (5,) * 7),
