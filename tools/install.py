@@ -26,6 +26,8 @@ TOOLS = {"sweep": "loses power in each change of a script", "cut": "leaves the i
 # What the programs and the tools for scripts read beside themselves.
 READ = "python", "start.py", "parser.py", "launch", "launcher.py", "streams.py", "installed.py", "lines.py", "words.py", "explain.py", "explore.html"
 EXAMPLES = "scripts to play"
+# The status of ./libapei where something is missing that the library is made with.
+LACKS = 69
 LIBRARY = {"libapei.a": "the library for C and Rust", "apei.h": "its header, with every call",
            "libapei.pc": "for pkg-config, which finds the rest from here", "heap_arena.c": "memory from one array, for a program without malloc"}
 # Where each kind of these files is put: a header that belongs to a source is beside that.
@@ -116,6 +118,14 @@ def called(*words: str | Path) -> None:
         sys.exit(status if status > 0 else 128 - status)
 
 
+def is_made(folder: Path) -> bool:
+    """Has the library made in a folder. On a machine that lacks what it is made with, which is said, the rest is installed without it."""
+    status = subprocess.run([TOP / "libapei", f"--out={folder}"], check=False).returncode
+    if status not in (0, LACKS):
+        sys.exit(status if status > 0 else 128 - status)
+    return status == 0
+
+
 def version() -> str:
     return subprocess.run([TOP / "apei", "--version"], capture_output=True, text=True, check=True).stdout.partition(" ")[2]
 
@@ -128,12 +138,12 @@ def install(prefix: Path, given: argparse.Namespace) -> None:
         called(TOP / "tools/launch", "--build", name)
     with tempfile.TemporaryDirectory() as made:
         folder = None if given.without_library else given.library or Path(made)
-        if folder and not given.library:
-            called(TOP / "libapei", f"--out={made}")
+        if folder and not given.library and not is_made(folder):
+            folder = None
         parts = [*programs(), *tools(), *pages(), *(library(folder) if folder else ()), Part("lib/apei/version", text=version())]
         for part in parts:
             put(prefix, part)
-    print(f"install: {prefix} has what {given.prog} --what lists" + (", but for the library" if given.without_library else ""))
+    print(f"install: {prefix} has what {given.prog} --what lists" + ("" if folder else ", but for the library"))
 
 
 def lists(prefix: Optional[Path]) -> None:
@@ -147,8 +157,8 @@ def lists(prefix: Optional[Path]) -> None:
 
 def main() -> int:
     parser = Parser(prog="./install", description="puts what there is below a folder, which may be moved as a whole",
-                                     epilog="status: 0 done, 2 bad words, 4 the output can't be written, 5 a file can't be read or written, "
-                                            "69 something is missing that the library is built with, 70 something is not proved or not built")
+                                     epilog="status: 0 done (without the library where something is missing that it is made with, which is said), 2 bad words, "
+                                            "4 the output can't be written, 5 a file can't be read or written, 70 something is not proved or not built")
     parser.add_argument("--prefix", type=Path, metavar="DIR", help="the folder; it is made where it is not there")
     parser.add_argument("--what", action="store_true", help="lists what is put there, or with --prefix what of it is there, and ends")
     one = parser.add_mutually_exclusive_group()
