@@ -11,6 +11,7 @@ from pathlib import Path
 import streams
 from apei.flash import TEARS
 from apei.played import changes, images, job_of, options
+from installed import tool
 from parser import Parser
 from streams import Failed
 
@@ -29,7 +30,7 @@ def write_new(path: Path, image: bytes) -> None:
 
 
 def main() -> int:
-    parser = Parser(prog="tools/cut", description="leaves the image of one loss of power")
+    parser = Parser(prog=tool("cut"), description="leaves the image of one loss of power")
     parser.add_argument("--at", type=int, required=True, metavar="N", help="the flash change in which power is lost, from 0")
     leaves = "what it leaves: " + ", ".join(f"{tear} {what}" for tear, what in enumerate(TEARS))
     parser.add_argument("--torn", type=int, default=0, choices=range(len(TEARS)), help=leaves)

@@ -13,6 +13,7 @@ import stat
 from difflib import get_close_matches
 from typing import Any, Callable, Iterator, Optional
 
+from installed import called
 from lines import LINES, LONGEST_LINE, Named, why_not_filled
 from words import GRAMMARS, Line, listed, read
 
@@ -44,7 +45,7 @@ def command_line(program: str, words: list[str]) -> list[str]:
     fault = read(program, words).fault if program in GRAMMARS else None
     if program == "apei" and "--force" in words:
         fault = "--force stands before the job"
-    return [*([fault] if fault else []), f"./{program} --help says {what}"]
+    return [*([fault] if fault else []), f"{called(program)} --help says {what}"]
 
 
 def of_apei(line: Line, status: int, first: str, text_of: TextOf, files: dict[int, Named]) -> Iterator[str]:

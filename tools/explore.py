@@ -16,6 +16,7 @@ import streams
 from apei.flash import TEARS, Geometry
 from apei.harness import Program, image_file, side_by_side
 from apei.played import Change, Job, answered, built, changes, images, job_of, options
+from installed import tool
 from parser import Parser
 
 PAGE = Path(__file__).resolve().parent / "explore.html"
@@ -102,7 +103,7 @@ def page_of(data: Json) -> str:
 
 
 def main() -> int:
-    parser = Parser(prog="tools/explore", description="writes one page on a script and its flash to standard output")
+    parser = Parser(prog=tool("explore"), description="writes one page on a script and its flash to standard output")
     options(parser)
     parser.add_argument("--look", type=Path, help="the built program that shows an image (crates/apei_look/out/apei_look)")
     given = parser.parse_args()

@@ -23,6 +23,7 @@ import threading
 from typing import Any, NamedTuple, Optional
 
 import streams
+from installed import in_place
 from lines import Filled, names_files
 from streams import write_all
 
@@ -82,7 +83,7 @@ def answered(program: Program, words: list[str]) -> bool:
     before = words[: words.index("--")] if "--" in words else words
     for word in before:
         if word in ("--help", "-h"):
-            sys.stdout.write(text_in(program.help))
+            sys.stdout.write(in_place(program.name, text_in(program.help)))
             return True
         if word == "--version":
             print(version(program))
@@ -335,7 +336,7 @@ def told_to_end(program: Program, words: list[str], number: int) -> str:
 
     line = read(program.name, words)
     what = "interrupted" if number == signal.SIGINT else f"ended by the signal {signal.Signals(number).name}"
-    if line.job == "play":
+    if line.job == "play" and os.path.exists(line.options.get("--image") or ""):
         return f"{what}: the lines that were answered were played, and {line.options.get('--image')} has their records"
     return what
 

@@ -16,6 +16,7 @@ from apei.flash import Fault
 from apei.harness import one_by_one
 from apei.played import Job, answered, changes, images, job_of, options
 from apei.record_map import stored
+from installed import tool
 from parser import Parser
 from streams import Failed
 
@@ -170,7 +171,7 @@ def keep(folder: Path, job: Job, case: Case) -> None:
 
 def main() -> int:
     says = "loses power in, and fails, each flash change of a script, with each tear"
-    parser = Parser(prog="tools/sweep", description=says)
+    parser = Parser(prog=tool("sweep"), description=says)
     parser.add_argument("--keep", type=Path, metavar="DIR", help="where the first case that is wrong is left, with its image")
     options(parser)
     given = parser.parse_args()

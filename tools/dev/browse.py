@@ -1,10 +1,11 @@
 """Opens the page of tools/explore in Debian's Chromium, moves its slider by the keyboard, and compares what it says with apei-look.
 
-    tools/run browse [PROGRAM] [LOOK] [--picture FILE]
+    tools/run browse [PROGRAM] [LOOK] [--picture FILE] [--narrow FILE]
 
 PROGRAM and LOOK are the built programs. The script is a replacement and a clear. Behind each change, and with power lost in each change
-with each tear, the letters of the cells, the records and the sentence of the page are compared with what LOOK says of that image. With
---picture the page behind twelve changes is left as a PNG.
+with each tear, the letters of the cells, the records and the sentence of the page are compared with what LOOK says of that image. On a screen
+400 pixels wide, with 32 slots, the records are where the slider is, and nothing goes past the screen's edge. With --picture the page behind
+twelve changes is left as a PNG, and with --narrow the one on the narrow screen.
 """
 
 import argparse
@@ -31,6 +32,11 @@ READ = """JSON.stringify({letters: [...document.querySelectorAll(".cell .letter"
   records: [...document.querySelectorAll("#records th[scope=row]")].map(it => it.textContent)})"""
 
 
+# Where the slider ends and the records begin, in pixels from the page's top, and how wide the page is.
+PLACES = """JSON.stringify({slider: document.getElementById("step").getBoundingClientRect().bottom + scrollY,
+  records: document.getElementById("records").getBoundingClientRect().bottom + scrollY,
+  cells: document.getElementById("cells").getBoundingClientRect().top + scrollY, wide: document.documentElement.scrollWidth})"""
+NARROW, HIGH = 400, 800
 KEYS = {"ArrowRight": 39, "Home": 36}
 
 
@@ -98,11 +104,11 @@ def looked_at(look: Program, image: bytes) -> Json:
 
 
 def page_of(job: Job, look: Program, folder: Path) -> Path:
-    """The page of tools/explore on the script."""
+    """The page of tools/explore on a script."""
     lines, page = folder / "script", folder / "page.html"
     lines.write_bytes(job.script)
     explore = Program(TOP / "tools" / "explore")
-    page.write_bytes(explore.run(f"--program={job.program.path}", f"--look={look.path}", *FLASH.words, lines).written)
+    page.write_bytes(explore.run(f"--program={job.program.path}", f"--look={look.path}", *job.geometry.words, lines).written)
     return page
 
 
@@ -131,11 +137,26 @@ def each_state(browser: Browser, look: Program, made: list[Change], picture: Pat
             browser.press("ArrowRight")
 
 
+def on_narrow_screen(browser: Browser, page: Path, picture: Path | None, tally: Tally) -> None:
+    """The result is on the screen that the slider is on."""
+    browser.call("Emulation.setDeviceMetricsOverride", width=NARROW, height=HIGH, deviceScaleFactor=1, mobile=False)
+    browser.open(page)
+    browser.evaluate("document.getElementById('step').focus()")
+    for _ in range(12):
+        browser.press("ArrowRight")
+    found = json.loads(browser.evaluate(PLACES))
+    near = found["slider"] < found["records"] <= min(found["cells"], HIGH)
+    tally.expect(near and found["wide"] <= NARROW, f"on a narrow screen: {found}")
+    if picture:
+        browser.picture(picture)
+
+
 def main(words: list[str]) -> int:
     parser = argparse.ArgumentParser(prog="tools/run browse")
     parser.add_argument("program", nargs="?", default=Program.of("apei").path, type=Path)
     parser.add_argument("look", nargs="?", default=Program.of("apei_look").path, type=Path)
     parser.add_argument("--picture", type=Path)
+    parser.add_argument("--narrow", type=Path)
     given = parser.parse_args(words)
     job, look = Job(Program(given.program.resolve()), script(LINES), FLASH), Program(given.look.resolve())
     _, made = changes(job)
@@ -145,6 +166,8 @@ def main(words: list[str]) -> int:
         try:
             browser.open(page_of(job, look, folder))
             each_state(browser, look, made, given.picture, tally)
+            wide = Job(job.program, job.script, Geometry(SECTOR, PER_SLOT, 32))
+            on_narrow_screen(browser, page_of(wide, look, folder), given.narrow, tally)
         finally:
             browser.end()
     return tally.end()

@@ -7,12 +7,11 @@ run from where ./install puts them, and the tools from a copy of their folder. A
 """
 
 import os
-import resource
 import shutil
 import signal
 import subprocess
 import time
-from collections.abc import Iterator
+from collections.abc import Iterator, Sequence
 from dataclasses import dataclass, field
 from pathlib import Path
 from typing import Any
@@ -79,13 +78,19 @@ KNOWN = [
     Meets("explore -", COUNT, READS, needs_strace=True),
     Meets("explore --help", b"", WRITES),
     Meets("build", b"", (70,) * 7),
+    Meets("release", b"", (2,) * 7),
+    Meets("release --help", b"", WRITES),
+    Meets("install", b"", (2,) * 7),
+    Meets("install --what", b"", WRITES),
+    Meets("install --prefix=script/x --without-library", b"", (5,) * 7),
+    Meets("install --prefix=made --without-library --library=none", b"", (2,) * 7),
     Meets("libapei --help", b"", WRITES),
     Meets("libapei --none", b"", (2,) * 7),
     Meets("libapei", b"", (69,) * 7),
     Meets("run", b"", WRITES),
     Meets("run none", b"", (2,) * 7),
 ]
-# Images that can't be written: a folder, one in a folder that is missing or locked, and one on a disk that takes no more.
+# Images that can't be written: a folder, one in a folder that is missing or locked.
 IMAGES = "folder", "none/x", "closed/x"
 
 
@@ -104,7 +109,7 @@ class Causes(Tally):
         super().__init__("cases")
         folder.chmod(0o755)
         self.folder, self.work = folder, folder / "work"
-        subprocess.run([TOP / "install", f"--prefix={folder}"], check=True, stdout=subprocess.DEVNULL)
+        subprocess.run([TOP / "install", f"--prefix={folder}", "--without-library"], check=True, stdout=subprocess.DEVNULL)
         shutil.copytree(TOP / "tools", folder / "tools", ignore=shutil.ignore_patterns("__pycache__"))
         self.work.mkdir()
         self.work.chmod(0o777)
@@ -130,15 +135,15 @@ class Causes(Tally):
         place = TOP / "tools" if name in ("run", "release") else TOP if name in ("install", "libapei") else self.folder / ("bin" if "apei" in name else "tools")
         return [place / name, *played, *rest]
 
-    def run(self, words: list[str], given: bytes = b"", **settings: Any) -> subprocess.CompletedProcess[bytes]:
-        for name in ("new",):
-            (self.work / name).unlink(missing_ok=True)
+    def run(self, words: list[str], given: bytes = b"", before: Sequence[str] = (), **settings: Any) -> subprocess.CompletedProcess[bytes]:
+        """A run, by the words of another command before it where there are some."""
+        (self.work / "new").unlink(missing_ok=True)
         streams: dict[str, Any] = {"input": given, "stdout": subprocess.PIPE, "stderr": subprocess.PIPE, "timeout": 60, **settings}
         if "stdin" in streams:
             del streams["input"]
         # The toolchain is not found there.
         path = {**os.environ, "PATH": "/usr/bin:/bin"}
-        return subprocess.run(self.command(words), cwd=self.work, check=False, env=path, **streams)
+        return subprocess.run([*before, *self.command(words)], cwd=self.work, check=False, env=path, **streams)
 
     def expect_end(self, words: list[str], cause: str, status: int, done: subprocess.CompletedProcess[bytes], heard: bool = True) -> None:
         """A case: the status, and what is said."""
@@ -190,22 +195,22 @@ def files(causes: Causes) -> None:
                 (causes.work / "none").unlink(missing_ok=True)
 
 
-def few_bytes() -> None:
-    """A disk that takes 64 bytes of a file."""
-    signal.signal(signal.SIGXFSZ, signal.SIG_IGN)
-    resource.setrlimit(resource.RLIMIT_FSIZE, (64, 64))
+# A disk of sixteen pages that is full after as many, seen by one run alone.
+FULL = ["unshare", "--mount", "sh", "-c", 'mount -t tmpfs -o size=64k none folder && exec "$@"', "sh"]
+HAS_FULL = not subprocess.run([*FULL[:4], "mount -t tmpfs -o size=64k none /tmp", "sh"], capture_output=True, check=False).returncode
 
 
 def images(causes: Causes) -> None:
-    """Files that are written: where they can't be, none is left."""
+    """Files that can't be written."""
     for image in IMAGES:
         for words, status in ((f"apei play --image={image}", 5), (f"cut --at=0 --image={image} script", 5)):
             if STRACE or not words.startswith("cut"):
                 done = causes.run(words.split(" "), **as_another())
                 causes.expect_end(words.split(" "), "an image that can't be made", status, done)
-    done = causes.run(["apei", "play", "--image=new"], preexec_fn=few_bytes)
-    causes.expect_end(["apei", "play"], "a disk that is full", 5, done)
-    causes.expect(not (causes.work / "new").exists(), "apei leaves a part of an image")
+    for text in ("apei play --image=folder/x", "cut --at=0 --image=folder/x script"):
+        if HAS_FULL and (STRACE or not text.startswith("cut")):
+            done = causes.run(text.split(" "), before=FULL)
+            causes.expect_end(text.split(" "), "a disk that is full", 5, done)
 
 
 # A program that takes long.
@@ -253,6 +258,8 @@ def main(_words: list[str]) -> int:
         files(causes)
         images(causes)
         interrupted(causes)
+        if not HAS_FULL:
+            print("causes: no image was put on a full disk, since none can be mounted here")
         if not STRACE:
             print("causes: cut and explore were not tried whole, since there is no strace here (a Debian package), or it may not trace")
         return causes.end()

@@ -22,15 +22,16 @@ from typing import Any
 from apei import TOP
 from apei.flash import Geometry
 from apei.harness import Ended, Program, Tally, scratch, script
+from apei.library import pkg_config
 from apei.looks import medium_header
 from apei.scripts import write
 from gate.options import IN_FORM, OUT_OF_FORM, split
 from words import read
 
-BAD = "apei: ./apei --help says which jobs and options there are"
-LOOK_BAD = "apei-look: ./apei-look --help says which options there are"
+BAD = "apei: apei --help says which jobs and options there are"
+LOOK_BAD = "apei-look: apei-look --help says which options there are"
 MEDIUM = "play would write over its first sector. No options would fit; --force before the job writes over it."
-SHOW_BAD = "apei-show: ./apei-show --help says which words there are"
+SHOW_BAD = "apei-show: apei-show --help says which words there are"
 # The signals that end a run.
 ENDING = signal.SIGTERM, signal.SIGINT, signal.SIGHUP
 # Words and input, the status, and the lines on standard error.
@@ -127,7 +128,7 @@ class Runs(Tally):
     def __init__(self, folder: Path) -> None:
         super().__init__()
         self.folder = folder
-        subprocess.run([TOP / "install", f"--prefix={folder}"], check=True, stdout=subprocess.DEVNULL, umask=0o077)
+        subprocess.run([TOP / "install", f"--prefix={folder}", "--without-library"], check=True, stdout=subprocess.DEVNULL, umask=0o077)
         self.environment = {**os.environ, "PATH": f"{folder}/bin:{os.environ['PATH']}"}
         os.symlink("/none/x", folder / "nowhere")
         (folder / "short").write_bytes(b"\xff" * 65536)
@@ -323,7 +324,9 @@ def answers(runs: Runs) -> None:
     is_checkout = (TOP / ".git").exists()
     for name in ("apei", "apei-look", "apei-show"):
         helped = runs.run(f"{name} --help")
-        runs.expect(helped.status == 0 and helped.written == (TOP / "tools" / f"help{name[4:]}.txt").read_bytes(), f"{name} --help")
+        foreign = [it for it in ("./", "docs/", "README") if it in helped.text]
+        usage = (TOP / "tools" / f"help{name[4:]}.txt").read_text().partition("exit status")[0].partition("Exit status")[0].replace("./apei", "apei")
+        runs.expect(helped.status == 0 and helped.text.startswith(usage) and not foreign, f"{name} --help speaks of {foreign}")
         shown = runs.run(f"{name} --version").text
         runs.expect(shown.startswith(f"{name} ") and ("(no commit)" not in shown or not is_checkout), f"{name} --version: {shown}")
         for path in (f"share/man/man1/{name}.1", f"share/bash-completion/completions/{name}"):
@@ -331,7 +334,68 @@ def answers(runs: Runs) -> None:
     kept = [path for part in ("bin", "lib", "share") for path in (runs.folder / part).rglob("*") if "__pycache__" not in path.parts]
     runs.expect(all(path.stat().st_mode & 0o044 == 0o044 for path in kept), "other users can't read what is installed")
     wrong = subprocess.run([TOP / "install"], capture_output=True, check=False)
-    runs.expect(wrong.returncode == 1, "./install without a folder")
+    runs.expect(wrong.returncode == 2 and b"say where to: --prefix=DIR" in wrong.stderr, "./install without a folder")
+
+
+def first_page(runs: Runs) -> None:
+    """README names the toolchain before the first command that wants it, by the words that the toolchain has for itself."""
+    before = (TOP / "README.md").read_text().partition("./apei sim")[0]
+    runs.expect("rt version" in before and "Python 3.10" in before and "No licence has been chosen" in before, "README does not begin with what is needed")
+    if shutil.which("rt"):
+        has = Program(Path("rt")).run("version").text.strip()
+        runs.expect(f"`{has}`" in before, f"README names another toolchain than {has}")
+
+
+def placed(runs: Runs) -> None:
+    """What ./install --what lists is where it says, a folder that was moved works, and the tools for scripts are called by their names."""
+    moved = runs.folder / "moved" / "to"
+    library = runs.folder / "library"
+    library.mkdir()
+    write_library(library)
+    words: list[str | Path] = [TOP / "install", f"--prefix={runs.folder / 'at'}", f"--library={library}"]
+    subprocess.run(words, check=True, stdout=subprocess.DEVNULL)
+    moved.parent.mkdir()
+    (runs.folder / "at").rename(moved)
+    listed = Program(TOP / "install").run("--what")
+    there = Program(TOP / "install").run("--what", f"--prefix={moved}")
+    places = [line.split()[0] for line in listed.replies]
+    runs.expect(listed.status == 0 and listed.text == there.text and len(places) > 15, f"./install --what: {listed}, {there}")
+    runs.expect(all((moved / it).exists() for it in places), f"not there: {[it for it in places if not (moved / it).exists()]}")
+    for name in ("sweep", "cut", "explore"):
+        helped = Program(moved / "bin" / f"apei-{name}").run("--help")
+        runs.expect(helped.text.startswith(f"usage: apei-{name} "), f"apei-{name} --help: {helped}")
+    example = Program(moved / "bin/apei").run("sim", given=(moved / "share/apei/examples/two-records.script").read_bytes())
+    runs.expect(example.text == "wrote 1 128 @6\nwrote 7 300 @13\n", f"an example that is installed: {example}")
+    swept = Program(moved / "bin/apei-sweep").run("--slots=4", "--sector=256", moved / "share/apei/examples/crash-in-a-replacement.script")
+    runs.expect(swept.status == 0 and swept.text.endswith(" cases, 0 wrong\n"), f"apei-sweep: {swept}")
+    linked(runs, moved)
+
+
+def write_library(folder: Path) -> None:
+    """What ./libapei leaves, with an archive of one call in the place of its own."""
+    (folder / "call.c").write_text("int apei_tried(void);\nint apei_tried(void) { return 7; }\n")
+    for path in (TOP / "include/apei.h", *(TOP / "glue").glob("heap_arena.*")):
+        shutil.copy(path, folder)
+    (folder / "libapei.pc").write_text(pkg_config())
+    if shutil.which("cc") and shutil.which("ar"):
+        subprocess.run(["cc", "-c", "call.c"], cwd=folder, check=True)
+        subprocess.run(["ar", "rc", "libapei.a", "call.o"], cwd=folder, check=True)
+    else:
+        (folder / "libapei.a").write_bytes(b"!<arch>\n")
+
+
+def linked(runs: Runs, prefix: Path) -> None:
+    """A program finds header and archive by pkg-config, wherever the folder was moved to."""
+    text = (prefix / "lib/pkgconfig/libapei.pc").read_text()
+    runs.expect("${pcfiledir}" in text and str(runs.folder) not in text, f"libapei.pc names a place: {text}")
+    if not (shutil.which("cc") and shutil.which("pkg-config")):
+        print("top: there is no cc or no pkg-config here, so nothing was linked by libapei.pc")
+        return
+    source, program = runs.folder / "tried.c", runs.folder / "tried"
+    source.write_text("#include <apei.h>\nint apei_tried(void);\nint main(void) { return apei_tried(); }\n")
+    asked = Program(Path("pkg-config")).run("--cflags", "--libs", "libapei", env={**os.environ, "PKG_CONFIG_PATH": str(prefix / "lib/pkgconfig")})
+    made = Program(Path("cc")).run(source, "-o", program, *asked.text.split())
+    runs.expect(made.status == 0 and Program(program).run().status == 7, f"by pkg-config: {asked}, {made}")
 
 
 def without_toolchain(runs: Runs) -> None:
@@ -354,6 +418,8 @@ def main(_words: list[str]) -> int:
         builds(runs)
         terminals(runs)
         answers(runs)
+        first_page(runs)
+        placed(runs)
         files_in_lines(runs)
         typed(runs)
         without_toolchain(runs)
