@@ -5,6 +5,7 @@ mod commands;
 mod durability;
 mod equivalence;
 mod failures;
+mod settling;
 
 pub use commands::{
     a_clear_is_the_maps, a_client_reads_as_the_map, a_client_writes_as_the_map,
@@ -22,3 +23,4 @@ pub use equivalence::{
     equivalent_ports_reset_alike, equivalent_ports_write_alike,
 };
 pub use failures::{a_failed_change_is_a_loss, a_failure_begins, a_failure_is_told};
+pub use settling::a_settled_step_is_a_poll;
