@@ -5,7 +5,7 @@
  * A device keeps error records in flash. Your program owns the flash's medium (a chip, a file, a block device), and the
  * device holds a copy of its bytes in memory. So there are three duties, and nothing else is asked of you:
  *
- *   1. After each call that may act (apei_erst_open, _open_raw, _load, _load_raw, _failed, _write, _reset): while apei_erst_change tells a
+ *   1. After each call that may act (apei_erst_open, _open_raw, _load, _load_raw, _failed, _write, _settle, _reset): while apei_erst_change tells a
  *      change, make it on the medium, wait until it is durable, and say so by apei_erst_done. The changes come one after
  *      another, and none may be skipped or overtaken. Until the last one is done the device takes no action (APEI_DUE).
  *   2. Where the medium fails a change, read the medium again and hand its bytes to apei_erst_failed: the device goes on over
@@ -177,12 +177,18 @@ static inline enum apei_status apei_erst_range_size(apei_erst *erst, uint64_t *s
  * APEI_CLOSED, APEI_ACCESS. */
 static inline enum apei_status apei_erst_image(apei_erst *erst, uint64_t offset, uint8_t *bytes, size_t size);
 
+/* Has the execution that runs go on, as one poll of the guest would, and leaves VALUE as it is. So a program ends the execution
+ * of a guest that is paused: call it, make the change that is due, and call it again, until the answer is APEI_NONE, no
+ * execution runs. The guest then finds at its next poll that its execution has ended, with the status that it would have had.
+ * APEI_CLOSED, APEI_NONE, APEI_DUE. */
+static inline enum apei_status apei_erst_settle(apei_erst *erst);
+
 /* ---- Migration ----------------------------------------------------------------------------------------------------- */
 
 /* What a device is beside its medium, as bytes: the addresses of its windows, its registers and its log range. apei_erst_load
  * makes a device of them over the same medium, and that one answers every access as this one. The device stays open, and
  * may go on. `size` tells how many bytes they are, APEI_SAVED_HEAD and the size of the log range, also where the answer is
- * APEI_SHORT. APEI_CLOSED; APEI_BUSY: let the guest end its execution, by its accesses or by apei_erst_reset; APEI_DUE;
+ * APEI_SHORT. APEI_CLOSED; APEI_BUSY: end the execution by apei_erst_settle, or let the guest end it; APEI_DUE;
  * APEI_SHORT. */
 #define APEI_SAVED_HEAD 80
 static inline enum apei_status apei_erst_save(apei_erst *erst, uint8_t *bytes, size_t room, size_t *size);
@@ -288,6 +294,7 @@ uint32_t apei_c_erst_change(apei_erst *erst, apei_change *change, uint8_t *bytes
 uint32_t apei_c_erst_done(apei_erst *erst);
 uint32_t apei_c_erst_failed(apei_erst *erst, const uint8_t *medium, size_t size);
 uint32_t apei_c_erst_reset(apei_erst *erst);
+uint32_t apei_c_erst_settle(apei_erst *erst);
 uint32_t apei_c_erst_move(apei_erst *erst, const apei_addresses *addresses);
 uint32_t apei_c_erst_table(apei_erst *erst, uint8_t *table, size_t room, uint64_t *size);
 uint32_t apei_c_erst_range_size(apei_erst *erst, uint64_t *size);
@@ -435,6 +442,11 @@ static inline enum apei_status apei_erst_move(apei_erst *erst, const apei_addres
     if (!APEI_IS(erst, apei_erst) || !APEI_IS(addresses, apei_addresses))
         return APEI_POINTER;
     return (enum apei_status)apei_c_erst_move(erst, addresses);
+}
+
+static inline enum apei_status apei_erst_settle(apei_erst *erst)
+{
+    return APEI_IS(erst, apei_erst) ? (enum apei_status)apei_c_erst_settle(erst) : APEI_POINTER;
 }
 
 static inline enum apei_status apei_erst_table(apei_erst *erst, uint8_t *table, size_t room, size_t *size)

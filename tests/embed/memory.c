@@ -116,9 +116,13 @@ static void interrupt(struct opening *with, apei_erst *erst)
         apei_erst_write(erst, APEI_REGISTERS, 0, 4, BUSY);
     expect(apei_erst_write(erst, APEI_REGISTERS, 0, 4, BUSY) == APEI_DUE, "an action is taken while a change is due");
     expect(apei_erst_reset(erst) == APEI_DUE, "a device restarts while a change is due");
+    expect(apei_erst_settle(erst) == APEI_DUE, "an execution goes on while a change is due");
+    drain(with, erst);
+    expect(apei_erst_settle(erst) == APEI_OK, "an execution does not go on");
     drain(with, erst);
     expect(apei_erst_reset(erst) == APEI_OK, "a restart is refused");
     drain(with, erst);
+    expect(apei_erst_settle(erst) == APEI_NONE, "an execution goes on that does not run");
 }
 
 /* Each call on a device. */

@@ -10,3 +10,4 @@ pub mod Formats
 pub mod Checks
 pub mod Saving
 pub mod Failing
+pub mod Settling

@@ -13,6 +13,7 @@ mod numbers;
 mod openings;
 mod owners;
 mod saving;
+mod settling;
 mod status;
 mod structs;
 

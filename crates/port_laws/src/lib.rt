@@ -6,6 +6,7 @@ mod durability;
 mod equivalence;
 mod failures;
 mod lives;
+mod settling;
 
 pub use commands::{
     a_clear_is_the_maps, a_client_reads_as_the_map, a_client_writes_as_the_map,
@@ -27,3 +28,4 @@ pub use lives::{
     a_life_keeps_what_was_told, a_loading_begins, a_medium_starts_a_run,
     no_fault_before_the_last_count,
 };
+pub use settling::a_settled_step_is_a_poll;

@@ -247,6 +247,21 @@ impl<M: Medium> Device<M> {
         self.keep_up()
     }
 
+    /// Ends the execution that runs, change by change, as the polls of the guest would. VALUE stays. So a guest that is paused can be
+    /// saved, and finds at its next poll that its execution has ended.
+    pub fn settle(&mut self) -> Result<(), Failure<M::Error>> {
+        self.catch_up()?;
+        loop {
+            // SAFETY: the handle lives as long as the call.
+            let status = unsafe { raw::apei_c_erst_settle(self.handle.erst()) };
+            if status == NONE {
+                return Ok(());
+            }
+            answer(status)?;
+            self.keep_up()?;
+        }
+    }
+
     /// Other addresses, as when the windows of a PCI device are moved. The table is another then.
     pub fn move_to(&mut self, addresses: Addresses) -> Result<(), Error> {
         // SAFETY: the handle and the addresses live as long as the call.
@@ -273,7 +288,7 @@ impl<M: Medium> Device<M> {
     }
 
     /// What the device is beside its medium, as bytes: the addresses of its windows, its registers and its log range.
-    /// [`Device::load`] makes a device of them. [`Error::Busy`] while an execution runs.
+    /// [`Device::load`] makes a device of them. [`Error::Busy`] while an execution runs: [`Device::settle`] ends it.
     pub fn save(&self) -> Result<Vec<u8>, Error> {
         sized(|bytes, size| {
             // SAFETY: the bytes and the references live as long as the call.

@@ -108,6 +108,7 @@ extern "C" {
     pub fn apei_c_erst_done(erst: *mut Erst) -> u32;
     pub fn apei_c_erst_failed(erst: *mut Erst, medium: *const u8, size: usize) -> u32;
     pub fn apei_c_erst_reset(erst: *mut Erst) -> u32;
+    pub fn apei_c_erst_settle(erst: *mut Erst) -> u32;
     pub fn apei_c_erst_move(erst: *mut Erst, addresses: &Addresses) -> u32;
     pub fn apei_c_erst_table(erst: *mut Erst, table: *mut u8, room: usize, size: &mut u64) -> u32;
     pub fn apei_c_erst_save(erst: *mut Erst, bytes: *mut u8, room: usize, size: &mut u64) -> u32;

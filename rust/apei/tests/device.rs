@@ -173,6 +173,27 @@ fn a_saved_device_goes_on_elsewhere() {
 }
 
 #[test]
+fn an_execution_is_ended_for_a_save() {
+    let mut device = Device::open(formatted(), ADDRESSES).unwrap();
+    act(&mut device, 0x0).unwrap();
+    device.write(Window::LogRange, 0, &record(5, 400)).unwrap();
+    act(&mut device, 0x5).unwrap();
+    assert_eq!(act(&mut device, 0x6).unwrap(), 1);
+    assert_eq!(device.save(), Err(Error::Busy));
+    device.settle().unwrap();
+    let (saved, medium) = (device.save().unwrap(), device.medium().clone());
+
+    // The guest still reads that its execution runs, polls once more, and finds it ended.
+    let mut device = Device::load(medium, &saved).unwrap();
+    let mut value = [0; 8];
+    device.read(Window::Registers, 8, &mut value).unwrap();
+    assert_eq!(u64::from_le_bytes(value), 1);
+    assert_eq!(act(&mut device, 0x6).unwrap(), 0);
+    assert_eq!(act(&mut device, 0x7).unwrap(), 0);
+    assert_eq!(identifiers(&mut device), [5]);
+}
+
+#[test]
 fn what_is_no_saved_device_is_refused() {
     let device = Device::open(formatted(), ADDRESSES).unwrap();
     let saved = device.save().unwrap();
