@@ -213,6 +213,8 @@ def images(causes: Causes) -> None:
             causes.expect_end(text.split(" "), "a disk that is full", 5, done)
 
 
+# How long a script runs before Ctrl-C comes, in seconds; after the last time it has surely begun to work.
+WAITS = 0.02, 0.05, 0.1, 0.2, 2.5
 # A program that takes long.
 SLOW = "#!/bin/sh\nexec sleep 30\n"
 
@@ -225,9 +227,9 @@ def interrupted(causes: Causes) -> None:
     held = ["apei sim", "apei play --image=flash", "apei check", "apei hub", "apei-show -", "sweep -"]
     played = [f"{name} --program={slow} script" for name in ("sweep", "explore", "cut --at=0 --image=new") if STRACE or name == "sweep"]
     for words in [*held, *played]:
-        for wait in (0.02, 0.05, 0.1, 0.2, 1.0):
+        for wait in WAITS:
             done = interrupt(causes, words.split(" "), wait)
-            causes.expect_end(words.split(" "), f"Ctrl-C after {wait} s", -signal.SIGINT, done, heard=wait == 1.0)
+            causes.expect_end(words.split(" "), f"Ctrl-C after {wait} s", -signal.SIGINT, done, heard=wait == WAITS[-1])
             said = (done.stderr or b"").decode(errors="replace")
             causes.expect(not any(it in said for it in PYTHON), f"{words}, Ctrl-C after {wait} s: {said}")
 
