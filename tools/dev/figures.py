@@ -165,7 +165,7 @@ The machine of `play` and `sim` takes the flash's image beside that, the log ran
 ## Code size
 
 It goes by the machine and the compiler. As LLVM builds them for x86-64, `size` shows of code and constants: the store in a whole program of its own,
-`crates/driver_example`, 34 kB; the program `apei` 637 kB. The library's two archives stand in [EMBED.md](EMBED.md#two-archives).
+`crates/driver_example`, 34 kB; the program `apei` 637 kB. The library's archives stand in [EMBED.md](EMBED.md#which-archive).
 """
 
 
