@@ -1,5 +1,5 @@
 -- What an access writes: inside the source's parts alone.
-use Rattle.std.proofs.Common.{◌≡◌, ℕ, ◌+◌, ◌-◌, ◌*◌, ◌<◌, ◌≤◌, ◌⊎◌, inl, inr, Option, Some, None, List, [], ◌∷◌, length, take, All, bit_or, refl, sym, subst, arith}
+use Rattle.std.proofs.Common.{◌≡◌, ℕ, ◌+◌, ◌<◌, ◌≤◌, inl, inr, Option, Some, None, List, [], ◌∷◌, length, take, All, bit_or, refl, sym, subst, arith}
 use Rattle.std.proofs.lemmas.List.{length-take, length-drop}
 use Rattle.base_model.specs.Bytes.{part, spelled}
 use Rattle.base_model.proofs.BytesLemmas.{length-spelled}
@@ -50,11 +50,13 @@ number_only v m at n value clear = v.written m at (spelled n value) (subst (λ (
 four : (v : View) (m : ℕ → ℕ) (at len : ℕ) (bytes : List ℕ) → length bytes ≤ 4 → 20 ≤ len → v.Clear at len → v.Same m (with_bytes m at bytes)
 four v m at len bytes short long clear = v.written m at bytes (v.inner at len at (length bytes) (omega (arith)) (omega (arith, short, long)) clear)
 
-sets_only : (v : View) (ack : Option AckRegister) (read : ℕ) (m : ℕ → ℕ) → ((a : AckRegister) → ack ≡ Some a → v.Clear (index_of a.place) (octets a.access)) → v.Same m (memory_after (ack_set ack read) m)
+sets_only : (v : View) (ack : Option AckRegister) (read : ℕ) (m : ℕ → ℕ) → ((a : AckRegister) → ack ≡ Some a → v.Clear (index_of a.place) (octets a.access))
+    → v.Same m (memory_after (ack_set ack read) m)
 sets_only v None read m clear = v.same m
 sets_only v (Some ack) read m clear = number_only v m (index_of ack.place) (octets ack.access) (bit_or read ack.set) (clear ack refl)
 
-clears_only : (v : View) (ack : Option AckRegister) (read : ℕ) (m : ℕ → ℕ) → ((a : AckRegister) → ack ≡ Some a → v.Clear (index_of a.place) (octets a.access)) → v.Same m (memory_after (ack_cleared ack read) m)
+clears_only : (v : View) (ack : Option AckRegister) (read : ℕ) (m : ℕ → ℕ) → ((a : AckRegister) → ack ≡ Some a → v.Clear (index_of a.place) (octets a.access))
+    → v.Same m (memory_after (ack_cleared ack read) m)
 clears_only v None read m clear = v.same m
 clears_only v (Some ack) read m clear = number_only v m (index_of ack.place) (octets ack.access) (cleared ack read) (clear ack refl)
 

@@ -1,9 +1,8 @@
 -- The register of the block's address, from the access that writes it on.
-use Rattle.std.proofs.Common.{◌≡◌, ◌∙◌, ℕ, ◌*◌, ◌/◌, ◌^◌, ◌<◌, ◌≤◌, Option, Some, None, List, All, refl, sym, ap, subst, arith}
+use Rattle.std.proofs.Common.{◌≡◌, ◌∙◌, ℕ, ◌/◌, ◌^◌, ◌<◌, Some, List, All, sym, ap, subst}
 use Rattle.std.proofs.Math.Nat.{mul-div_cancel}
 use Rattle.std.proofs.lemmas.Nat.{pow_pos}
 use Rattle.base_model.specs.Bytes.{little, spelled}
-use Rattle.apei_tables.specs.Access.{bits}
 use Rattle.ghes_port.specs.declared.maps.SourceMap.{SourceMap}
 use Rattle.ghes_port.specs.declared.maps.AckRegister.{AckRegister}
 use Rattle.ghes_port.specs.declared.stages.Stage.{Stage}
@@ -12,7 +11,7 @@ use Rattle.ghes_port.specs.Places.{index_of, octets}
 use Rattle.ghes_port.specs.Memories.{bytes_from, with_bytes}
 use Rattle.ghes_port.specs.Machine.{told_at, stage_after, address_number, IsGood}
 use Rattle.ghes_port.specs.Sound.{IsPlaced, IsReached}
-use Rattle.ghes_port.specs.Readers.{memory_after, address_in, AreOff, IsApart, IsAckApart, IsBegun, SameParts}
+use Rattle.ghes_port.specs.Readers.{memory_after, address_in, AreOff, IsApart, IsAckApart, IsBegun}
 use Rattle.ghes_port.proofs.WidthLemmas.{octets_fit, read_back, swapped}
 use Rattle.ghes_port.proofs.AccessLemmas.{bytes_seen, access_only}
 
@@ -95,17 +94,24 @@ address_accessed map queue m TellAddress value placed apart good reached at =
     let small : number < 256 ^ n = subst (λ (k : ℕ). number < k) (sym (octets_fit map.address.access)) placed.address in
     at_any map (with_bytes m where_to (spelled n number)) (stage_after map queue TellAddress value) (read_back m where_to n number small)
 address_accessed map queue m ReadFirst value placed apart good reached at =
-    at_any map (memory_after (told_at map queue ReadFirst) m) (stage_after map queue ReadFirst value) (ap little (kept map queue m ReadFirst placed apart good reached (λ e. let f : ReadFirst ≡ TellAddress = e in cc)) ∙ at)
+    at_any map (memory_after (told_at map queue ReadFirst) m) (stage_after map queue ReadFirst value)
+    (ap little (kept map queue m ReadFirst placed apart good reached (λ e. let f : ReadFirst ≡ TellAddress = e in cc)) ∙ at)
 address_accessed map queue m (SetAck v) value placed apart good reached at =
-    at_any map (memory_after (told_at map queue (SetAck v)) m) (stage_after map queue (SetAck v) value) (ap little (kept map queue m (SetAck v) placed apart good reached (λ e. let f : SetAck v ≡ TellAddress = e in cc)) ∙ at)
+    at_any map (memory_after (told_at map queue (SetAck v)) m) (stage_after map queue (SetAck v) value)
+    (ap little (kept map queue m (SetAck v) placed apart good reached (λ e. let f : SetAck v ≡ TellAddress = e in cc)) ∙ at)
 address_accessed map queue m (Fill piece) value placed apart good reached at =
-    at_any map (memory_after (told_at map queue (Fill piece)) m) (stage_after map queue (Fill piece) value) (ap little (kept map queue m (Fill piece) placed apart good reached (λ e. let f : Fill piece ≡ TellAddress = e in cc)) ∙ at)
+    at_any map (memory_after (told_at map queue (Fill piece)) m) (stage_after map queue (Fill piece) value)
+    (ap little (kept map queue m (Fill piece) placed apart good reached (λ e. let f : Fill piece ≡ TellAddress = e in cc)) ∙ at)
 address_accessed map queue m ReadAck value placed apart good reached at =
-    at_any map (memory_after (told_at map queue ReadAck) m) (stage_after map queue ReadAck value) (ap little (kept map queue m ReadAck placed apart good reached (λ e. let f : ReadAck ≡ TellAddress = e in cc)) ∙ at)
+    at_any map (memory_after (told_at map queue ReadAck) m) (stage_after map queue ReadAck value)
+    (ap little (kept map queue m ReadAck placed apart good reached (λ e. let f : ReadAck ≡ TellAddress = e in cc)) ∙ at)
 address_accessed map queue m (ClearAck v) value placed apart good reached at =
-    at_any map (memory_after (told_at map queue (ClearAck v)) m) (stage_after map queue (ClearAck v) value) (ap little (kept map queue m (ClearAck v) placed apart good reached (λ e. let f : ClearAck v ≡ TellAddress = e in cc)) ∙ at)
+    at_any map (memory_after (told_at map queue (ClearAck v)) m) (stage_after map queue (ClearAck v) value)
+    (ap little (kept map queue m (ClearAck v) placed apart good reached (λ e. let f : ClearAck v ≡ TellAddress = e in cc)) ∙ at)
 address_accessed map queue m Show value placed apart good reached at =
-    at_any map (memory_after (told_at map queue Show) m) (stage_after map queue Show value) (ap little (kept map queue m Show placed apart good reached (λ e. let f : Show ≡ TellAddress = e in cc)) ∙ at)
+    at_any map (memory_after (told_at map queue Show) m) (stage_after map queue Show value)
+    (ap little (kept map queue m Show placed apart good reached (λ e. let f : Show ≡ TellAddress = e in cc)) ∙ at)
 address_accessed map queue m Notify value placed apart good reached at = at
 address_accessed map queue m Await value placed apart good reached at =
-    at_any map (memory_after (told_at map queue Await) m) (stage_after map queue Await value) (ap little (kept map queue m Await placed apart good reached (λ e. let f : Await ≡ TellAddress = e in cc)) ∙ at)
+    at_any map (memory_after (told_at map queue Await) m) (stage_after map queue Await value)
+    (ap little (kept map queue m Await placed apart good reached (λ e. let f : Await ≡ TellAddress = e in cc)) ∙ at)

@@ -1,5 +1,5 @@
 -- A block that is not refused is exactly one.
-use Rattle.std.proofs.Common.{◌≡◌, ◌∙◌, ℕ, ◌-◌, ◌<◌, ◌≤◌, inl, inr, Bool, true, false, nat_lt, if◌then◌else◌, Option, Some, None, Result, Ok, Err, List, length, refl, ap, arith}
+use Rattle.std.proofs.Common.{◌≡◌, ◌∙◌, ℕ, ◌-◌, ◌≤◌, inl, inr, Bool, true, false, nat_lt, if◌then◌else◌, Some, None, Result, Ok, Err, List, length, refl, ap, arith}
 use Rattle.std.proofs.lemmas.Grind.{common_steps}
 use Rattle.std.proofs.lemmas.Bool.{cases_lt}
 use Rattle.base_model.specs.Bytes.{AreBytes}
@@ -8,14 +8,14 @@ use Rattle.ghes_block.specs.Reading.{checked}
 use Rattle.ghes_block.proofs.Blocks.{passed}
 use Rattle.ghes_ack.specs.Machine.{Fits}
 use Rattle.ghes_ack.specs.Submissions.{refusal_of}
-use Rattle.ghes_ack.specs.declared.submission.SubmitError.{SubmitError}
 use Rattle.ghes_ack.specs.declared.submission.SubmitError.TheVariants.{Long, Malformed, Trailing, Full}
 use Rattle.ghes_port.specs.Machine.{IsGood}
 
 whole_of : (len : ℕ) (block : List ℕ) → refusal_of len block 0 ≡ None → checked block ≡ Ok (length block)
 whole_of len block none = go (nat_lt len (length block)) (checked block) refl none
   where
-    ended : (size : ℕ) (short : Bool) → checked block ≡ Ok size → nat_lt size (length block) ≡ short → (if short then Some (Trailing (length block - size)) else None) ≡ None → checked block ≡ Ok (length block)
+    ended : (size : ℕ) (short : Bool) → checked block ≡ Ok size → nat_lt size (length block) ≡ short → (if short then Some (Trailing (length block - size)) else None) ≡ None
+        → checked block ≡ Ok (length block)
     ended size true is test none = absurd (let e : Some (Trailing (length block - size)) ≡ None = none in cc)
     ended size false is test none =
         let sized = passed block size is in
@@ -25,7 +25,11 @@ whole_of len block none = go (nat_lt len (length block)) (checked block) refl no
         is ∙ ap Ok (omega (arith, fits, length_is, long))
 
     go : (long : Bool) (r : Result ℕ BlockError) → checked block ≡ r
-        → (if long then Some (Long (length block)) else elim r [ Err error ↦ Some (Malformed error) | Ok size ↦ if nat_lt size (length block) then Some (Trailing (length block - size)) else if nat_lt 0 64 then None else Some Full ]) ≡ None
+        → (if long then Some (Long (length block)) else elim r [
+          | Err error ↦ Some (Malformed error)
+          | Ok size ↦ if nat_lt size (length block) then Some
+              (Trailing (length block - size)) else if nat_lt 0 64 then None else Some Full
+        ]) ≡ None
         → checked block ≡ Ok (length block)
     go true r is none = absurd (let e : Some (Long (length block)) ≡ None = none in cc)
     go false (Err error) is none = absurd (let e : Some (Malformed error) ≡ None = none in cc)

@@ -1,5 +1,5 @@
 -- A boot error region at any moment.
-use Rattle.std.proofs.Common.{◌≡◌, ◌∙◌, ℕ, zero, suc, ◌+◌, ◌-◌, ◌*◌, ◌^◌, ◌<◌, ◌≤◌, ◌⊎◌, inl, inr, min, Bool, true, false, ◌||◌, ◌==◌, nat_lt, if◌then◌else◌, List, [], ◌∷◌, ◌++◌, length, take, drop, All, refl, sym, ap, subst, arith}
+use Rattle.std.proofs.Common.{◌≡◌, ◌∙◌, ℕ, zero, suc, ◌+◌, ◌-◌, ◌*◌, ◌<◌, ◌≤◌, ◌⊎◌, inl, inr, min, Bool, true, false, ◌||◌, ◌==◌, nat_lt, if◌then◌else◌, List, [], ◌∷◌, ◌++◌, length, take, All, refl, sym, ap, subst, arith}
 use Rattle.std.proofs.lemmas.Bool.{cases_lt, cases_eq, eq-eqb}
 use Rattle.std.proofs.lemmas.Grind.{common_steps}
 use Rattle.std.proofs.lemmas.List.{length-take, take-replicate}
@@ -12,10 +12,10 @@ use Rattle.ghes_block.proofs.Whole.{whole_block}
 use Rattle.ghes_ack.proofs.RoomLemmas.{All-more}
 use Rattle.ghes_port.specs.declared.boot.BootStage.{BootStage}
 use Rattle.ghes_port.specs.declared.boot.BootStage.TheVariants.{Clear, Rest, Fill, Show}
-use Rattle.ghes_port.specs.Machine.{piece_at, piece_of, IsGood}
+use Rattle.ghes_port.specs.Machine.{piece_at, piece_of}
 use Rattle.ghes_port.specs.Memories.{bytes_from, with_byte, with_bytes}
 use Rattle.ghes_port.specs.Readers.{memory_after}
-use Rattle.ghes_port.specs.Boot.{BootState, told_at, boot_told, stage_after, end_after, boot_after, boot_laying, IsReached, IsBoot, BootWorld, laid_after, BootHappens, Lays, Accesses, Elsewhere, BootLeads, Stays, Then, IsBootFirst, IsCleared, lost_from, MayBeLeft}
+use Rattle.ghes_port.specs.Boot.{BootState, told_at, stage_after, end_after, IsReached, IsBoot, BootWorld, laid_after, BootHappens, Lays, Accesses, Elsewhere, BootLeads, Stays, Then, IsBootFirst, IsCleared, lost_from, MayBeLeft}
 use Rattle.ghes_port.proofs.MemoryLemmas.{far_byte, same_byte, other_byte, far, length-bytes_from, two}
 use Rattle.ghes_port.proofs.TogetherLemmas.{one_more, rest_length, shown_block, front, is_more, is_less}
 use Rattle.ghes_port.proofs.TableLemmas.{structures_more}
@@ -90,7 +90,8 @@ cleared b m piece more goes ends within first none = by_more more goes ends
     by_more false goes ends = let past = ends refl in λ i low high. all i (omega (arith, low)) (omega (arith, high, past, within))
 
 -- a piece of a block
-filled : (b : BootState) (m : ℕ → ℕ) (piece : ℕ) (more : Bool) → (more ≡ true → piece_at (piece + 1) < length b.block) → (more ≡ false → length b.block ≤ piece_at (piece + 1)) → piece_at piece < length b.block
+filled : (b : BootState) (m : ℕ → ℕ) (piece : ℕ) (more : Bool) → (more ≡ true → piece_at (piece + 1) < length b.block) → (more ≡ false → length b.block ≤ piece_at (piece + 1))
+    → piece_at piece < length b.block
     → InStage b m (Fill piece) → InStage b (with_bytes m (b.at + b.end + piece_at piece) (piece_of b.block piece)) (if more then Fill (piece + 1) else Show)
 unfolding InStage
 filled b m piece more goes ends begins stands = by_more more goes ends
@@ -104,7 +105,8 @@ filled b m piece more goes ends begins stands = by_more more goes ends
         let sum : 64 * piece + length bytes ≡ 64 * (piece + 1) = omega (arith, n) in
         let new : ℕ → ℕ = with_bytes m (b.at + b.end + piece_at piece) bytes in
         let word = zero_far m (b.at + b.end + piece_at piece) bytes (b.at + b.end) (b.at + b.end + 4) (inl (omega (arith))) stands.0 in
-        let rest = zero_far m (b.at + b.end + piece_at piece) bytes (b.at + b.end + 4 + 64 * (piece + 1)) (b.at + b.len) (inr (omega (arith, n))) (λ i low high. stands.2 i (omega (arith, low)) high) in
+        let rest = zero_far m (b.at + b.end + piece_at piece) bytes (b.at + b.end + 4 + 64 * (piece + 1)) (b.at + b.len) (inr (omega (arith, n)))
+        (λ i low high. stands.2 i (omega (arith, low)) high) in
         (word, subst (λ (k : ℕ). bytes_from new (b.at + b.end + 4) k ≡ part b.block 4 k) sum (one_more (b.at + b.end) m b.block piece stands.1), rest)
     by_more false goes ends =
         let bytes : List ℕ = piece_of b.block piece in
@@ -113,7 +115,8 @@ filled b m piece more goes ends begins stands = by_more more goes ends
         let sum : 64 * piece + length bytes ≡ length b.block - 4 = omega (arith, n, begins) in
         let new : ℕ → ℕ = with_bytes m (b.at + b.end + piece_at piece) bytes in
         let word = zero_far m (b.at + b.end + piece_at piece) bytes (b.at + b.end) (b.at + b.end + 4) (inl (omega (arith))) stands.0 in
-        let rest = zero_far m (b.at + b.end + piece_at piece) bytes (b.at + b.end + length b.block) (b.at + b.len) (inr (omega (arith, n, begins))) (λ i low high. stands.2 i (omega (arith, low, begins)) high) in
+        let rest = zero_far m (b.at + b.end + piece_at piece) bytes (b.at + b.end + length b.block) (b.at + b.len) (inr (omega (arith, n, begins)))
+        (λ i low high. stands.2 i (omega (arith, low, begins)) high) in
         (word, subst (λ (k : ℕ). bytes_from new (b.at + b.end + 4) k ≡ part b.block 4 k) sum (one_more (b.at + b.end) m b.block piece stands.1), rest)
 
 -- where it is after an access
@@ -124,7 +127,13 @@ boot_is b (Clear piece) is reached = record { below = is.below; short = is.short
     next true goes = (goes refl, reached.1)
     next false goes = tt
 boot_is b Rest is reached = record { below = is.below; short = is.short; within = is.within; reached = tt }
-boot_is b (Fill piece) is reached = record { below = is.below; short = is.short; within = is.within; reached = next (nat_lt (piece_at (piece + 1)) (length b.block)) (is_more (piece_at (piece + 1)) (length b.block)) }
+boot_is b (Fill piece) is reached = record {
+  below = is.below;
+  short = is.short;
+  within = is.within;
+  reached = next (nat_lt (piece_at (piece + 1)) (length b.block))
+      (is_more (piece_at (piece + 1)) (length b.block));
+}
   where
     next : (more : Bool) → (more ≡ true → piece_at (piece + 1) < length b.block) → IsReached (record b { stage = if more then Fill (piece + 1) else Show }) (if more then Fill (piece + 1) else Show)
     next true goes = (reached.0, goes refl)
@@ -137,8 +146,12 @@ accessed : (b : BootState) (m : ℕ → ℕ) (laid : List (List ℕ)) (stage : B
     × InStage (record b { stage = stage_after b stage; end = end_after b stage }) (memory_after (told_at b stage) m) (stage_after b stage)
 unfolding InStage
 accessed b m laid (Clear piece) is reached each blocks stands =
-    let first = reached.1 in
-    (each, none b.end first ∙ sym (none_before b.end first) ∙ blocks, cleared b m piece (nat_lt (64 * (piece + 1)) b.len) (is_more (64 * (piece + 1)) b.len) (is_less (64 * (piece + 1)) b.len) reached.0 first stands)
+    let first = reached.1 in (
+      each,
+      none b.end first ∙ sym (none_before b.end first)
+          ∙ blocks,
+      cleared b m piece (nat_lt (64 * (piece + 1)) b.len) (is_more (64 * (piece + 1)) b.len) (is_less (64 * (piece + 1)) b.len) reached.0 first stands,
+    )
   where
     none : (n : ℕ) → n ≡ 0 → bytes_from (memory_after (told_at b (Clear piece)) m) b.at n ≡ []
     none n e = ap (bytes_from (memory_after (told_at b (Clear piece)) m) b.at) e
@@ -160,7 +173,8 @@ accessed b m laid Show is reached each blocks stands =
     let before : bytes_from new b.at b.end ≡ joined laid = far m (b.at + b.end) word b.at b.end (inl (omega (arith))) ∙ blocks in
     let rest = zero_far m (b.at + b.end) word (b.at + b.end + length b.block) (b.at + b.len) (inr (omega (arith, n, low))) stands.2 in (
       All-more IsOneBlock laid b.block each (block_of b.block, whole_block b.block reached.bytes reached.whole),
-      two new b.at b.end (length b.block) ∙ ap (λ (xs : List ℕ). xs ++ bytes_from new (b.at + b.end) (length b.block)) before ∙ ap (λ (xs : List ℕ). joined laid ++ xs) shown ∙ sym (structures_more laid b.block),
+      two new b.at b.end (length b.block) ∙ ap (λ (xs : List ℕ). xs ++ bytes_from new (b.at + b.end) (length b.block)) before ∙ ap (λ (xs : List ℕ). joined laid ++ xs) shown
+          ∙ sym (structures_more laid b.block),
       λ i above below. rest i (omega (arith, above)) below,
     )
 

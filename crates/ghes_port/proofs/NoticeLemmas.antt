@@ -1,10 +1,10 @@
 -- Each block is notified once.
-use Rattle.std.proofs.Common.{◌≡◌, ℕ, ◌+◌, ◌-◌, ◌<◌, Bool, true, false, if◌then◌else◌, nat_lt, Option, Some, None, List, [], ◌∷◌, length, drop, refl, arith}
+use Rattle.std.proofs.Common.{◌≡◌, ℕ, ◌+◌, Bool, true, false, if◌then◌else◌, nat_lt, Option, Some, None, List, [], ◌∷◌, length, drop, refl, arith}
 use Rattle.ghes_port.specs.declared.maps.SourceMap.{SourceMap}
 use Rattle.ghes_port.specs.declared.maps.AckRegister.{AckRegister}
 use Rattle.ghes_port.specs.declared.stages.Stage.{Stage}
 use Rattle.ghes_port.specs.declared.stages.Stage.TheVariants.{Hide, TellAddress, ReadFirst, SetAck, Fill, ReadAck, ClearAck, Show, Notify, Await}
-use Rattle.ghes_port.specs.Machine.{told_at, ack_read, ack_set, ack_cleared, ack_asked, piece_told, status_told, addressed, filled, filled_more, piece_done, piece_at, frees, stage_after, queue_after}
+use Rattle.ghes_port.specs.Machine.{told_at, ack_read, ack_set, ack_cleared, ack_asked, piece_told, status_told, addressed, filled, filled_more, piece_at, frees, stage_after, queue_after}
 use Rattle.ghes_port.specs.Sound.{IsReached, HasBlock}
 use Rattle.ghes_port.specs.Readers.{notices_of, waited_for}
 

@@ -1,20 +1,18 @@
 -- Sources that are opened together.
-use Rattle.std.proofs.Common.{◌≡◌, ◌≢◌, ◌∙◌, ℕ, zero, suc, ◌+◌, ◌-◌, ◌*◌, ◌%◌, ◌<◌, ◌≤◌, ◌^◌, inl, inr, Bool, true, false, ◌&&◌, ◌||◌, ◌==◌, not, nat_lt, if◌then◌else◌, Option, Some, None, Result, Ok, Err, List, [], ◌∷◌, ◌++◌, length, map, refl, sym, ap, subst, arith, slice_get, All, append_assoc}
+use Rattle.std.proofs.Common.{◌≡◌, ◌≢◌, ℕ, zero, suc, ◌+◌, ◌-◌, ◌*◌, ◌%◌, ◌<◌, ◌≤◌, ◌^◌, inl, inr, Bool, true, false, ◌&&◌, ◌||◌, ◌==◌, not, nat_lt, if◌then◌else◌, Option, Some, None, Result, Ok, Err, List, [], ◌∷◌, ◌++◌, length, map, refl, subst, arith, slice_get, All}
 use Rattle.std.proofs.lemmas.Bool.{cases_lt}
-use Rattle.std.proofs.lemmas.Bool.Decides.{nat_tests}
 use Rattle.std.proofs.lemmas.Grind.{common_steps}
-use Rattle.apei_tables.specs.declared.structure.Gas.{Gas}
 use Rattle.apei_tables.specs.declared.registers.Register.{Register}
 use Rattle.apei_tables.specs.declared.registers.BadRegister.{BadRegister}
 use Rattle.apei_tables.specs.Access.{bits}
-use Rattle.apei_tables.specs.Check.{checked, register_of}
+use Rattle.apei_tables.specs.Check.{checked}
 use Rattle.apei_tables.specs.declared.registers.Place.TheVariants.{Memory as InMemory}
 use Rattle.hest_sources.specs.declared.sources.Ack.{Ack}
 use Rattle.ghes_port.specs.declared.maps.SourceMap.{SourceMap}
 use Rattle.ghes_port.specs.declared.maps.AckRegister.{AckRegister as AckMap}
 use Rattle.ghes_port.specs.declared.setups.Setup.{Setup}
 use Rattle.ghes_port.specs.declared.errors.OpenError.{OpenError}
-use Rattle.ghes_port.specs.declared.errors.OpenError.TheVariants.{AddressRegister, Address, AckRegister, Mask, Length, Places, Zero, Alignment, Late, Clash, Id}
+use Rattle.ghes_port.specs.declared.errors.OpenError.TheVariants.{AddressRegister, Address, AckRegister, Mask, Length, Zero, Alignment, Late, Clash, Id}
 use Rattle.ghes_port.specs.Places.{index_of, octets}
 use Rattle.ghes_port.specs.Machine.{SourceState, address_number}
 use Rattle.ghes_port.specs.Sound.{HasBits, IsPlaced, IsSource}
@@ -218,7 +216,8 @@ meet_swapped one other none =
     by_ack : (a : AckMap) → one.ack ≡ Some a → (ack : Option AckMap) → AreClear (IsClear one) ack → ack_crosses ack (index_of a.place) (octets a.access) ≡ false
     by_ack a some None clear = refl
     by_ack a some (Some ack) clear =
-        cross_swapped (index_of a.place) (octets a.access) (index_of ack.place) (octets ack.access) (subst (λ (o : Option AckMap). ack_crosses o (index_of ack.place) (octets ack.access) ≡ false) some clear.ack)
+        cross_swapped (index_of a.place) (octets a.access) (index_of ack.place) (octets ack.access)
+        (subst (λ (o : Option AckMap). ack_crosses o (index_of ack.place) (octets ack.access) ≡ false) some clear.ack)
 
     at_ack : (ack : Option AckMap) → ack_crosses ack (index_of other.address.place) (octets other.address.access) ≡ false → ack_crosses ack other.block other.len ≡ false
         → ((a : AckMap) → ack ≡ Some a → ack_crosses other.ack (index_of a.place) (octets a.access) ≡ false) → ack_meets other ack ≡ false
@@ -230,7 +229,8 @@ meet_swapped one other none =
     })
 
 -- an earlier source and a later one
-beside_earlier : (i : ℕ) (earlier : List SourceState) (id : ℕ) (new : SourceMap) → earlier_fault i earlier id new ≡ None → (k : ℕ) (one : SourceState) → slice_get earlier k ≡ Some one → maps_meet one.map new ≡ false
+beside_earlier : (i : ℕ) (earlier : List SourceState) (id : ℕ) (new : SourceMap) → earlier_fault i earlier id new ≡ None → (k : ℕ) (one : SourceState) → slice_get earlier k ≡ Some one
+    → maps_meet one.map new ≡ false
 beside_earlier i [] id new none k one is = absurd (let e : None ≡ Some one = is in cc)
 beside_earlier i (first_one ∷ rest) id new none zero one is =
     let e : first_one ≡ one = (let f : Some first_one ≡ Some one = is in cc) in
@@ -279,7 +279,8 @@ in_order earlier i (s ∷ rest) none (suc k) (suc j) one other before is_one is_
     let beside = none_first (earlier_fault i earlier s.source.id (map_of s)) _ own.1 in
     in_order (earlier ++ begun s ∷ []) (i + 1) rest beside.1 k j one other (omega (arith, before)) is_one is_other
 
-pub pairs_apart : (setups : List Setup) (i j : ℕ) (one other : SourceState) → setups_fault [] 0 setups ≡ None → i ≢ j → slice_get (map begun setups) i ≡ Some one → slice_get (map begun setups) j ≡ Some other
+pub pairs_apart : (setups : List Setup) (i j : ℕ) (one other : SourceState) → setups_fault [] 0 setups ≡ None → i ≢ j → slice_get (map begun setups) i ≡ Some one
+    → slice_get (map begun setups) j ≡ Some other
     → maps_meet one.map other.map ≡ false
 pairs_apart setups i j one other none differ is_one is_other = elim (cases_lt i j) [
   | inl before ↦ in_order [] 0 setups none i j one other before is_one is_other

@@ -1,5 +1,5 @@
 -- Numbers in the fields of registers.
-use Rattle.std.proofs.Common.{◌≡◌, ◌∙◌, ℕ, zero, suc, ◌+◌, ◌-◌, ◌*◌, ◌/◌, ◌%◌, ◌^◌, ◌<◌, ◌≤◌, max, nat_lt, nat_le, nat_eq, ◌==◌, ◌||◌, inl, inr, Bool, true, false, cond, if◌then◌else◌, Result, Ok, Err, refl, sym, ap, subst, arith}
+use Rattle.std.proofs.Common.{◌≡◌, ℕ, zero, suc, ◌+◌, ◌-◌, ◌*◌, ◌/◌, ◌%◌, ◌^◌, ◌<◌, ◌≤◌, max, nat_lt, nat_le, nat_eq, ◌==◌, ◌||◌, inl, inr, Bool, true, false, cond, if◌then◌else◌, Result, Ok, Err, refl, sym, ap, subst, arith}
 use Rattle.std.proofs.lemmas.Bool.{cases_lt}
 use Rattle.std.proofs.lemmas.Bool.Decides.{nat_tests}
 use Rattle.std.proofs.lemmas.Grind.{common_steps}
@@ -97,7 +97,9 @@ pub found : (gas : Gas) (register : Register) → checked gas ≡ Ok register �
 found gas register e = go (nat_lt 1 gas.space) (nat_lt 4 gas.access) (gas.width == 0) (nat_lt 64 (gas.offset + gas.width)) refl refl e
   where
     go : (a b c d : Bool) → (gas.width == 0) ≡ c → nat_lt 64 (gas.offset + gas.width) ≡ d
-        → cond {A = Result Register BadRegister} a (Err (Space gas.space)) (cond {A = Result Register BadRegister} b (Err (Access gas.access)) (cond {A = Result Register BadRegister} (c || d) (Err (Bits gas.offset gas.width)) (Ok (register_of gas)))) ≡ Ok register
+        → cond {A = Result Register BadRegister} a (Err (Space gas.space))
+        (cond {A = Result Register BadRegister} b (Err (Access gas.access)) (cond {A = Result Register BadRegister} (c || d) (Err (Bits gas.offset gas.width)) (Ok (register_of gas))))
+        ≡ Ok register
         → Found gas register
     go false false false false wide is e =
         let few : gas.offset + gas.width ≤ 64 = grind (arith, nat_tests, is) in

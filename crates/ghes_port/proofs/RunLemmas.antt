@@ -1,12 +1,10 @@
 -- Whatever happens to a source, a memory and a guest.
-use Rattle.std.proofs.Common.{◌≡◌, ◌∙◌, ℕ, zero, suc, ◌+◌, ◌-◌, ◌*◌, ◌/◌, ◌^◌, ◌<◌, ◌≤◌, ◌⊎◌, inl, inr, Bool, true, false, if◌then◌else◌, ◌==◌, Option, Some, None, Ok, List, [], ◌∷◌, ◌++◌, length, take, drop, All, bit_and, bit_or, refl, sym, ap, subst, arith, length-append, append_assoc}
+use Rattle.std.proofs.Common.{◌≡◌, ◌∙◌, ℕ, zero, suc, ◌+◌, ◌-◌, ◌*◌, ◌<◌, ◌≤◌, inl, inr, Bool, false, if◌then◌else◌, ◌==◌, Option, Some, None, Ok, List, [], ◌∷◌, ◌++◌, length, take, drop, All, bit_and, bit_or, refl, sym, ap, subst, arith, length-append, append_assoc}
 use Rattle.std.proofs.lemmas.Bool.{eq-eqb, ne_eqb, cases_lt}
 use Rattle.std.proofs.lemmas.List.{take-append-drop, take-append-le, drop-append-le, length-take}
-use Rattle.std.proofs.lemmas.List.Elements.{All-drop}
 use Rattle.base_model.specs.Bytes.{little, part, spelled}
 use Rattle.ghes_block.specs.Reading.{checked}
 use Rattle.ghes_block.proofs.Blocks.{passed, passed_more, passed_front, block_length, Passed}
-use Rattle.ghes_ack.proofs.RoomLemmas.{All-more}
 use Rattle.ghes_port.specs.declared.maps.SourceMap.{SourceMap}
 use Rattle.ghes_port.specs.declared.maps.AckRegister.{AckRegister}
 use Rattle.ghes_port.specs.declared.stages.Stage.{Stage}
@@ -108,7 +106,8 @@ still : (map : SourceMap) (queue left : List (List ℕ)) (m : ℕ → ℕ) (stag
     → AreTogether map queue m left stage (if status_at map.block m == 0 then Looks else Copies [])
 still map queue left m stage zero_word at = subst (λ (t : Bool). AreTogether map queue m left stage (if t then Looks else Copies [])) (sym (eq-eqb (status_at map.block m) 0 zero_word)) at
 
-out_looked : (map : SourceMap) (queue left : List (List ℕ)) (m : ℕ → ℕ) → All (IsGood map.len) queue → IsOut map queue m left Looks → IsOut map queue m left (if status_at map.block m == 0 then Looks else Copies [])
+out_looked : (map : SourceMap) (queue left : List (List ℕ)) (m : ℕ → ℕ) → All (IsGood map.len) queue → IsOut map queue m left Looks
+    → IsOut map queue m left (if status_at map.block m == 0 then Looks else Copies [])
 out_looked map [] left m good (inl shown) = absurd shown
 out_looked map (block ∷ rest) left m good (inl shown) =
     let some : 0 < status_at map.block m = (status_is map.len m map.block block (good 0 block (omega (arith))) shown.1).0 in
@@ -154,7 +153,8 @@ busy_in map queue left m (Copies copied) busy inside = inside
 busy_in map queue left m Owes busy inside = inside
 busy_in map queue left m (Answers read) busy inside = inside
 
-pub is_out : (map : SourceMap) (queue left : List (List ℕ)) (m : ℕ → ℕ) (stage : Stage) (reader : Reader) → IsBusy reader → AreTogether map queue m left stage reader → IsOutAt stage × IsOut map queue m left reader
+pub is_out : (map : SourceMap) (queue left : List (List ℕ)) (m : ℕ → ℕ) (stage : Stage) (reader : Reader) → IsBusy reader → AreTogether map queue m left stage reader
+    → IsOutAt stage × IsOut map queue m left reader
 is_out map queue left m Hide reader busy at = absurd (subst IsBusy at.1 busy)
 is_out map queue left m TellAddress reader busy at = absurd (busy_in map queue left m reader busy at)
 is_out map queue left m ReadFirst reader busy at = absurd (busy_in map queue left m reader busy at)
@@ -201,7 +201,8 @@ took map queue left m (Some ack) head apart clear is taken =
     let same : acked map (Some ack) new ≡ acked map (Some ack) m = ap (λ (bs : List ℕ). bit_and (little bs) ack.set == ack.set) (far m map.block (spelled 4 0) at n off) in
     (taken, ap (λ (o : Option AckRegister). acked map o new) is ∙ same ∙ clear)
 
-taken_now : (map : SourceMap) (block : List ℕ) (rest left later : List (List ℕ)) (m : ℕ → ℕ) → block ∷ rest ≡ left → later ≡ drop 1 left → IsTaken map (block ∷ rest) (with_bytes m map.block (spelled 4 0)) later
+taken_now : (map : SourceMap) (block : List ℕ) (rest left later : List (List ℕ)) (m : ℕ → ℕ) → block ∷ rest ≡ left → later ≡ drop 1 left
+    → IsTaken map (block ∷ rest) (with_bytes m map.block (spelled 4 0)) later
 taken_now map block rest left later m is next = (ap (drop 1) is ∙ sym next, hidden m map.block)
 
 -- it acknowledges
@@ -256,7 +257,8 @@ taken_else : (map : SourceMap) (queue left : List (List ℕ)) (m new : ℕ → �
 taken_else map [] left m new head same taken = taken
 taken_else map (block ∷ rest) left m new head same taken = (taken.0, status_else map m new head same ∙ taken.1)
 
-out_else : (map : SourceMap) (queue left : List (List ℕ)) (m new : ℕ → ℕ) (reader : Reader) → 20 ≤ map.len → All (IsGood map.len) queue → SameParts map m new → IsOut map queue m left reader → IsOut map queue new left reader
+out_else : (map : SourceMap) (queue left : List (List ℕ)) (m new : ℕ → ℕ) (reader : Reader) → 20 ≤ map.len → All (IsGood map.len) queue → SameParts map m new → IsOut map queue m left reader
+    → IsOut map queue new left reader
 out_else map queue left m new Looks head good same (inl shown) = inl (shown_else map queue left m new head good same shown)
 out_else map queue left m new Looks head good same (inr taken) = inr (taken_else map queue left m new head same taken)
 out_else map queue left m new (Copies copied) head good same out =

@@ -1,10 +1,9 @@
 -- Sources one after another.
-use Rattle.std.proofs.Common.{◌≡◌, ◌∙◌, ◌⊎◌, inl, inr, ℕ, ◌+◌, Option, Some, None, List, [], ◌∷◌, ◌++◌, length, sym, ap, subst}
+use Rattle.std.proofs.Common.{◌≡◌, ◌∙◌, inl, inr, ℕ, ◌+◌, Option, List, [], ◌∷◌, ◌++◌, length, sym, ap}
 use Rattle.ghes_port.specs.declared.setups.Setup.{Setup}
 use Rattle.ghes_port.specs.declared.errors.OpenError.{OpenError}
-use Rattle.ghes_port.specs.declared.errors.OpenError.TheVariants.{Memory}
 use Rattle.ghes_port.specs.Machine.{SourceState}
-use Rattle.ghes_port.specs.Setups.{first, setup_fault, earlier_fault, setups_fault, begun, map_of}
+use Rattle.ghes_port.specs.Setups.{first, earlier_fault, setups_fault, begun, map_of}
 use Rattle.ghes_port.specs.Several.{RefusesAfter, RefusesAll}
 
 -- why the next source is not begun is the first reason of all

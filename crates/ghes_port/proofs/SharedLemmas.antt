@@ -1,5 +1,5 @@
 -- What happens to several sources over one memory happens to each as if it were alone.
-use Rattle.std.proofs.Common.{◌≡◌, ◌≢◌, ◌∙◌, ℕ, zero, suc, ◌+◌, ◌<◌, ◌≤◌, inl, inr, false, Option, Some, None, List, [], ◌∷◌, length, set, slice_get, bit_and, bit_or, refl, sym, ap, subst, arith}
+use Rattle.std.proofs.Common.{◌≡◌, ◌∙◌, ℕ, zero, suc, ◌≤◌, inl, inr, false, Some, None, List, [], ◌∷◌, length, set, slice_get, bit_and, bit_or, refl, sym, ap, subst, arith}
 use Rattle.std.proofs.lemmas.Bool.{cases_eq}
 use Rattle.base_model.specs.Bytes.{spelled}
 use Rattle.base_model.proofs.BytesLemmas.{length-spelled}
@@ -7,11 +7,9 @@ use Rattle.ghes_port.specs.declared.maps.SourceMap.{SourceMap}
 use Rattle.ghes_port.specs.declared.maps.AckRegister.{AckRegister}
 use Rattle.ghes_port.specs.Places.{index_of, octets}
 use Rattle.ghes_port.specs.Memories.{with_bytes}
-use Rattle.ghes_port.specs.Machine.{SourceState, told}
 use Rattle.ghes_port.specs.Setups.{maps_meet}
-use Rattle.ghes_port.specs.Readers.{World, memory_after, address_in, Happens, Submits, Accesses, GuestLooks, GuestCopies, GuestTakes, GuestAsks, GuestAnswers, Elsewhere, SameParts, Leads, Stays, Then, Copies}
+use Rattle.ghes_port.specs.Readers.{World, Happens, Submits, Accesses, GuestLooks, GuestCopies, GuestTakes, GuestAsks, GuestAnswers, Elsewhere, SameParts, Leads, Stays, Then, Copies}
 use Rattle.ghes_port.specs.Shared.{Side, Shared, world_of, side_of, IsOwn, Befalls, OneOf, NoneOf, Passes, Nothing, After, AreFirst, IsAlone}
-use Rattle.ghes_port.proofs.AccessLemmas.{View}
 use Rattle.ghes_port.proofs.BesideLemmas.{AreClear, IsBeside, beside_of, parts_seen, clear_inner, clear_same, access_elsewhere}
 use Rattle.ghes_port.proofs.RunLemmas.{Holds, holds_last, out_of, address_out}
 

@@ -46,7 +46,8 @@ after_address map queue None is within = within
 after_address map queue (Some at) is within = subst HasAck (sym is) tt
 
 -- after a stage in which no block is filled or waited for
-pub reached_next : (map : SourceMap) (queue : List (List ℕ)) (stage : Stage) (value : ℕ) → IsPassing stage → All (IsGood map.len) queue → IsReached map queue stage → IsReached map queue (stage_after map queue stage value)
+pub reached_next : (map : SourceMap) (queue : List (List ℕ)) (stage : Stage) (value : ℕ) → IsPassing stage → All (IsGood map.len) queue → IsReached map queue stage
+    → IsReached map queue (stage_after map queue stage value)
 reached_next map queue Hide value passing all reached = tt
 reached_next map queue TellAddress value passing all reached = after_address map queue map.ack refl (fills_first map.len queue all)
 reached_next map queue ReadFirst value passing all reached = reached

@@ -1,6 +1,6 @@
 -- The bytes of the tables.
-use Rattle.std.proofs.Common.{◌≡◌, ◌∙◌, ℕ, zero, suc, ◌+◌, ◌-◌, ◌*◌, ◌%◌, ◌^◌, ◌<◌, ◌≤◌, List, [], ◌∷◌, ◌++◌, length, get_or, take, drop, map, refl, sym, ap, subst, arith, append_assoc, append-nil, length-append, take-append-drop, drop-cons, lit<, lit≤}
-use Rattle.std.specs.Prelude.{sum, codes, All, Option, Some, None, IfSome, replicate}
+use Rattle.std.proofs.Common.{◌≡◌, ◌∙◌, ℕ, suc, ◌+◌, ◌%◌, ◌^◌, ◌<◌, List, [], ◌∷◌, ◌++◌, length, get_or, take, drop, map, refl, sym, ap, subst, arith, append_assoc, append-nil, length-append, take-append-drop, drop-cons, lit<}
+use Rattle.std.specs.Prelude.{sum, codes, All, replicate}
 use Rattle.std.proofs.lemmas.List.{length-map, take_more, map-append}
 use Rattle.ghes_ack.proofs.RoomLemmas.{All-more}
 use Rattle.base_model.specs.Bytes.{part, spelled, put_at, zeros, SameOutside, joined}
@@ -9,11 +9,8 @@ use Rattle.apei_bytes.specs.Walk.{AreItems}
 use Rattle.apei_bytes.specs.Writing.{Wrote}
 use Rattle.apei_bytes.proofs.Parts.{number_of}
 use Rattle.apei_bytes.proofs.Puts.{wrote_there}
-use Rattle.apei_tables.specs.declared.headers.Header.{Header}
 use Rattle.apei_tables.specs.Layout.{spelling, IsHeader}
 use Rattle.apei_tables.specs.Tables.{IsTable}
-use Rattle.hest_sources.specs.declared.sources.Ghes.{Ghes}
-use Rattle.hest_sources.specs.declared.sources.HestSource.{HestSource}
 use Rattle.hest_sources.specs.declared.sources.HestSource.TheVariants.{Ghes as Generic}
 use Rattle.hest_sources.specs.Layout.{IsGhes, IsSource, ghes_bytes}
 use Rattle.hest_sources.specs.Tables.{IsHest}
@@ -63,7 +60,8 @@ pub sealed : (a b c d len : ℕ) (rest after : List ℕ) → len ≡ 36 + length
 sealed a b c d len rest after size small outside sums fits =
     let check : ℕ = get_or after 9 0 in
     let is = sealed_is a b c d len rest after outside in
-    let whole : length after ≡ len = ap length is ∙ length-append (spelling (own_header (a ∷ b ∷ c ∷ d ∷ []) len check)) rest ∙ ap (λ (n : ℕ). n + length rest) (head_length a b c d len check) ∙ sym size in
+    let whole : length after ≡ len = ap length is ∙ length-append (spelling (own_header (a ∷ b ∷ c ∷ d ∷ []) len check)) rest ∙ ap (λ (n : ℕ). n + length rest) (head_length a b c d len check)
+    ∙ sym size in
     let field : part after 4 4 ≡ spelled 4 len = ap (λ (xs : List ℕ). part xs 4 4) is ∙ length_field a b c d len check rest in
     record {
       header = record {
@@ -144,7 +142,8 @@ hest_is setups len count bytes after is fit size small all few outside sums fits
     let head : List ℕ = spelling (own_header (codes "HEST") len check) in
     let rest_size : length rest ≡ 4 + length bytes = length-append (spelled 4 count) bytes ∙ ap (λ (n : ℕ). n + length bytes) (length-spelled 4 count) in
     let s : Sealed (codes "HEST") len rest after =
-    sealed 72 69 83 84 len rest after (omega (arith, size, rest_size)) small (subst (λ (xs : List ℕ). SameOutside 9 1 xs after) (append_assoc (spelling (own_header (codes "HEST") len 0)) (spelled 4 count) bytes) outside) sums fits in
+    sealed 72 69 83 84 len rest after (omega (arith, size, rest_size)) small
+    (subst (λ (xs : List ℕ). SameOutside 9 1 xs after) (append_assoc (spelling (own_header (codes "HEST") len 0)) (spelled 4 count) bytes) outside) sums fits in
     let whole : after ≡ head ++ (spelled 4 count ++ bytes) = s.is in
     let counted : part after 36 4 ≡ spelled 4 count = ap (λ (xs : List ℕ). part xs 36 4) whole ∙ count_field len check count bytes in
     let rest_is : drop 40 after ≡ joined (map (λ (t : Setup). ghes_bytes t.source) setups) = ap (drop 40) whole ∙ after_head len check count bytes ∙ is in
@@ -176,7 +175,8 @@ pub bert_is : (len region : ℕ) (after : List ℕ) → len < 2 ^ 32 → region 
 bert_is len region after small few outside sums fits =
     let rest : List ℕ = spelled 4 len ++ spelled 8 region in
     let check : ℕ = get_or after 9 0 in
-    let rest_size : length rest ≡ 12 = length-append (spelled 4 len) (spelled 8 region) ∙ ap (λ (n : ℕ). n + length (spelled 8 region)) (length-spelled 4 len) ∙ ap (λ (n : ℕ). 4 + n) (length-spelled 8 region) in
+    let rest_size : length rest ≡ 12 = length-append (spelled 4 len) (spelled 8 region) ∙ ap (λ (n : ℕ). n + length (spelled 8 region)) (length-spelled 4 len)
+    ∙ ap (λ (n : ℕ). 4 + n) (length-spelled 8 region) in
     let s : Sealed (codes "BERT") 48 rest after = sealed 66 69 82 84 48 rest after (omega (arith, rest_size)) (lit< tt) outside sums fits in
     let long = ap length s.is ∙ length-append (spelling (own_header (codes "BERT") 48 check)) rest in
     let head_size = head_length 66 69 82 84 48 check in

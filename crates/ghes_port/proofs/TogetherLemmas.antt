@@ -1,19 +1,18 @@
 -- What holds of a source, a memory and a guest, whatever happens, and that an access keeps it.
 use Rattle.std.proofs.Common.{◌≡◌, ◌∙◌, ℕ, zero, suc, ◌+◌, ◌-◌, ◌*◌, ◌%◌, ◌^◌, ◌<◌, ◌≤◌, ◌⊎◌, inl, inr, Bool, true, false, if◌then◌else◌, ◌==◌, nat_lt, Option, Some, None, List, [], ◌∷◌, ◌++◌, length, take, drop, All, bit_and, bit_or, refl, sym, ap, subst, arith}
-use Rattle.std.proofs.lemmas.Bool.{eq-eqb, ne_eqb, cases_lt}
+use Rattle.std.proofs.lemmas.Bool.{ne_eqb, cases_lt}
 use Rattle.std.proofs.lemmas.Grind.{common_steps}
 use Rattle.std.proofs.lemmas.List.{length-take, length-drop}
 use Rattle.std.proofs.lemmas.List.Elements.{All-drop}
 use Rattle.base_model.specs.Bytes.{little, part, spelled, number_at}
 use Rattle.base_model.proofs.BytesLemmas.{part-append, part-whole, length-part, little-lt, AreBytes-part}
-use Rattle.apei_tables.specs.Access.{bits}
 use Rattle.ghes_port.specs.declared.maps.SourceMap.{SourceMap}
 use Rattle.ghes_port.specs.declared.maps.AckRegister.{AckRegister}
 use Rattle.ghes_port.specs.declared.stages.Stage.{Stage}
 use Rattle.ghes_port.specs.declared.stages.Stage.TheVariants.{Hide, TellAddress, ReadFirst, SetAck, Fill, ReadAck, ClearAck, Show, Notify, Await}
 use Rattle.ghes_port.specs.Places.{index_of, octets}
 use Rattle.ghes_port.specs.Memories.{bytes_from, with_bytes}
-use Rattle.ghes_port.specs.Machine.{told_at, frees, addressed, filled, piece_at, piece_of, cleared, ack_read, ack_set, ack_cleared, ack_asked, address_number, stage_after, queue_after, piece_done, IsGood}
+use Rattle.ghes_port.specs.Machine.{told_at, frees, addressed, filled, piece_at, piece_of, cleared, ack_read, ack_set, ack_cleared, ack_asked, address_number, stage_after, queue_after, IsGood}
 use Rattle.ghes_port.specs.Sound.{IsPlaced, HasBits}
 use Rattle.ghes_port.specs.Readers.{Reader, Looks, Copies, Owes, Answers, memory_after, IsRead, status_at, number_in, IsAckApart, IsApart, AreOff}
 use Rattle.ghes_port.proofs.MemoryLemmas.{far, exact, two}
@@ -291,7 +290,8 @@ freed_is map (Some at) memory value read = ap (λ (x : ℕ). bit_and x at.set ==
 pub not_both : (t : Bool) → t ≡ true → t ≡ false → ⊥
 not_both t one other = let e : true ≡ false = sym one ∙ other in absurd (let f : true ≡ false = e in cc)
 
-waited : (map : SourceMap) (queue left : List (List ℕ)) (memory : ℕ → ℕ) (reader : Reader) (free : Bool) → acked map map.ack memory ≡ free → All (IsGood map.len) queue → IsOut map queue memory left reader
+waited : (map : SourceMap) (queue left : List (List ℕ)) (memory : ℕ → ℕ) (reader : Reader) (free : Bool) → acked map map.ack memory ≡ free → All (IsGood map.len) queue
+    → IsOut map queue memory left reader
     → AreTogether map (if free then drop 1 queue else queue) memory left (if free then Fill 0 else Await) reader
 waited map queue left memory reader false is good out = out
 waited map [] left memory Looks true is good (inl shown) = absurd shown

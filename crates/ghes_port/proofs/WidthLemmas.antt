@@ -1,5 +1,5 @@
 -- Numbers of an access, and what is read after they are written.
-use Rattle.std.proofs.Common.{◌≡◌, ◌∙◌, ℕ, ◌+◌, ◌-◌, ◌<◌, ◌≤◌, ◌^◌, ◌⊎◌, inl, inr, List, length, bit_and, refl, sym, ap, subst, arith, lit≤}
+use Rattle.std.proofs.Common.{◌≡◌, ◌∙◌, ℕ, ◌-◌, ◌<◌, ◌≤◌, ◌^◌, inl, inr, List, length, bit_and, refl, sym, ap, subst, arith, lit≤}
 use Rattle.std.proofs.lemmas.Grind.{and-not_self}
 use Rattle.std.proofs.lemmas.Nat.{and_le_r}
 use Rattle.base_model.specs.Bytes.{little, spelled}

@@ -7,7 +7,7 @@ use Rattle.ghes_ack.specs.Submissions.{refusal_of}
 use Rattle.ghes_port.specs.declared.boot.BootStage.{BootStage}
 use Rattle.ghes_port.specs.declared.boot.BootStage.TheVariants.{Clear, Rest, Fill, Show}
 use Rattle.ghes_port.specs.declared.boot.BootError.{BootError}
-use Rattle.ghes_port.specs.declared.boot.BootError.TheVariants.{Place, Busy, Bad, Memory}
+use Rattle.ghes_port.specs.declared.boot.BootError.TheVariants.{Busy, Bad}
 use Rattle.ghes_port.specs.declared.accesses.Outcome.{Outcome}
 use Rattle.ghes_port.specs.declared.accesses.Outcome.TheVariants.{Nothing as NothingDone, Done}
 use Rattle.ghes_port.specs.Machine.{Told, Nothing, Writes, piece_at, piece_of, IsGood}
@@ -91,10 +91,15 @@ laid_after b _ laid = laid
 
 -- one thing that happens: a block begins to be laid; the next access is made; somebody writes elsewhere
 pub data BootHappens (old new : BootWorld) : Type 0 where
-  Lays : (block : List ℕ) → old.boot.stage ≡ Rest → IsGood (old.boot.len - old.boot.end) block → new ≡ record old { boot = boot_laying old.boot block } → BootHappens old new
-  Accesses : new ≡ record old { boot = boot_after old.boot; memory = memory_after (boot_told old.boot) old.memory; laid = laid_after old.boot old.boot.stage old.laid }
-      → BootHappens old new
-  Elsewhere : (memory : ℕ → ℕ) → ((i : ℕ) → old.boot.at ≤ i → i < old.boot.at + old.boot.len → memory i ≡ old.memory i) → new ≡ record old { memory = memory } → BootHappens old new
+  Lays : (block : List ℕ) → old.boot.stage ≡ Rest → IsGood (old.boot.len - old.boot.end) block
+      → new ≡ record old { boot = boot_laying old.boot block } → BootHappens old new
+  Accesses : new ≡ record old {
+    boot = boot_after old.boot;
+    memory = memory_after (boot_told old.boot) old.memory;
+    laid = laid_after old.boot old.boot.stage old.laid;
+  } → BootHappens old new
+  Elsewhere : (memory : ℕ → ℕ) → ((i : ℕ) → old.boot.at ≤ i → i < old.boot.at + old.boot.len → memory i ≡ old.memory i)
+      → new ≡ record old { memory = memory } → BootHappens old new
 
 pub data BootLeads (first : BootWorld) : BootWorld → Type 0 where
   Stays : BootLeads first first

@@ -1,5 +1,5 @@
 -- A source whose accesses are made on a memory, and a guest that keeps to the reader's side.
-use Rattle.std.specs.Prelude.{◌≡◌, ◌⊎◌, ℕ, ◌+◌, ◌*◌, ◌-◌, ◌/◌, ◌^◌, ◌<◌, ◌≤◌, ◌==◌, if◌then◌else◌, List, [], ◌∷◌, ◌++◌, length, take, All, Option, Some, None, Ok, bit_and, bit_or}
+use Rattle.std.specs.Prelude.{◌≡◌, ◌⊎◌, ℕ, ◌+◌, ◌/◌, ◌^◌, ◌≤◌, ◌==◌, if◌then◌else◌, List, [], ◌∷◌, ◌++◌, length, take, Option, Some, None, Ok, bit_and, bit_or}
 use Rattle.base_model.specs.Bytes.{little, spelled}
 use Rattle.ghes_block.specs.Reading.{checked}
 use Rattle.ghes_port.specs.declared.maps.SourceMap.{SourceMap}
@@ -10,7 +10,7 @@ use Rattle.ghes_port.specs.declared.stages.Unacknowledged.{Unacknowledged}
 use Rattle.ghes_port.specs.Places.{index_of, octets}
 use Rattle.ghes_port.specs.Memories.{bytes_from, with_bytes}
 use Rattle.ghes_port.specs.Machine.{SourceState, Told, Nothing, Reads, Writes, Notifies, told, after, submitted, kept, reset, IsGood}
-use Rattle.ghes_port.specs.Sound.{IsPlaced, IsSource}
+use Rattle.ghes_port.specs.Sound.{IsSource}
 
 -- the guest looks for a block; it copies one, of which it has these bytes; it has still to acknowledge one; it has read the
 -- acknowledge register, to write it
@@ -77,7 +77,8 @@ SameAck None old new = Unit {0}
 SameAck (Some ack) old new = bytes_from new (index_of ack.place) (octets ack.access) ≡ bytes_from old (index_of ack.place) (octets ack.access)
 
 pub record SameParts (map : SourceMap) (old new : ℕ → ℕ) : Type 0 where
-  pub address : bytes_from new (index_of map.address.place) (octets map.address.access) ≡ bytes_from old (index_of map.address.place) (octets map.address.access)
+  pub address : bytes_from new (index_of map.address.place) (octets map.address.access)
+      ≡ bytes_from old (index_of map.address.place) (octets map.address.access)
   pub block : (at n : ℕ) → map.block ≤ at → at + n ≤ map.block + map.len → bytes_from new at n ≡ bytes_from old at n
   pub ack : SameAck map.ack old new
 
@@ -88,7 +89,11 @@ pub data Happens (old new : World) : Type 0 where
   Submits : (block : List ℕ) → IsGood old.source.map.len block
       → new ≡ record old { source = submitted old.source block; submitted = old.submitted ++ block ∷ [] } → Happens old new
   Accesses : (value : ℕ) → IsRead (told old.source) old.memory value
-      → new ≡ record old { source = after old.source value; memory = memory_after (told old.source) old.memory; notices = old.notices + notices_of (told old.source) } → Happens old new
+      → new ≡ record old {
+        source = after old.source value;
+        memory = memory_after (told old.source) old.memory;
+        notices = old.notices + notices_of (told old.source);
+      } → Happens old new
   GuestLooks : IsBegun old.source.stage → old.reader ≡ Looks
       → new ≡ record old { reader = if status_at (address_in old.source.map old.memory) old.memory == 0 then Looks else Copies [] } → Happens old new
   GuestCopies : (copied : List ℕ) (n : ℕ) → old.reader ≡ Copies copied → length copied + n ≤ old.source.map.len

@@ -111,7 +111,8 @@ ends_late map = (is_late (InMemory map.block) map.len || is_late map.address.pla
 
 abbrev pub meets_itself : SourceMap → Bool
 meets_itself map =
-    (address_crosses map map.block map.len || ack_crosses map.ack (index_of map.address.place) (octets map.address.access)) || ack_crosses map.ack map.block map.len
+    (address_crosses map map.block map.len || ack_crosses map.ack (index_of map.address.place) (octets map.address.access))
+    || ack_crosses map.ack map.block map.len
 
 abbrev pub place_fault : ℕ → SourceMap → Option OpenError
 place_fault i map =

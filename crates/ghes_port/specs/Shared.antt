@@ -1,5 +1,5 @@
 -- Several sources, each with its guest, over one memory.
-use Rattle.std.specs.Prelude.{◌≡◌, ◌≢◌, ℕ, List, length, set, Some, slice_get, false}
+use Rattle.std.specs.Prelude.{◌≡◌, ◌≢◌, ℕ, List, set, Some, slice_get, false}
 use Rattle.ghes_port.specs.Machine.{SourceState}
 use Rattle.ghes_port.specs.Setups.{maps_meet}
 use Rattle.ghes_port.specs.Readers.{Reader, World, Happens, Elsewhere, Leads, SameParts, IsFirst}
@@ -43,7 +43,8 @@ pub data Passes (first : Shared) : Shared → Type 0 where
 -- each source is before its first access, and no two have a byte in common
 pub record AreFirst (first : Shared) : Type 0 where
   pub each : (i : ℕ) (side : Side) → slice_get first.sides i ≡ Some side → IsFirst (world_of first.memory side)
-  pub apart : (i j : ℕ) (one other : Side) → i ≢ j → slice_get first.sides i ≡ Some one → slice_get first.sides j ≡ Some other → maps_meet one.source.map other.source.map ≡ false
+  pub apart : (i j : ℕ) (one other : Side) → i ≢ j → slice_get first.sides i ≡ Some one → slice_get first.sides j ≡ Some other
+      → maps_meet one.source.map other.source.map ≡ false
 
 -- what happened to one of them is what may happen to it alone
 pub record IsAlone (first last : Shared) (i : ℕ) (side : Side) : Type 0 where

@@ -1,7 +1,5 @@
-use Rattle.std.proofs.Common.{◌≡◌, ◌<◌, ◌*◌, ◌^◌, ℕ, true, sym, ap, subst, ◌∙◌, arith}
-use Rattle.std.proofs.lemmas.Bool.Decides.{nat_tests}
+use Rattle.std.proofs.Common.{◌<◌, ◌^◌, ℕ, sym, subst, ◌∙◌, arith}
 use Rattle.apei_tables.specs.Access.{bits}
-use Rattle.ghes_port.specs.Setups.{lies_within}
 use Rattle.ghes_port.proofs.RegisterLemmas.{has_bits, inside_is}
 use Rattle.ghes_port.proofs.registers.ack_by.Goals as goal
 

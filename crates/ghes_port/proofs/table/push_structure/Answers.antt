@@ -1,4 +1,4 @@
-use Rattle.std.proofs.Common.{◌∙◌, ◌++◌, ap, List, ℕ, sym}
+use Rattle.std.proofs.Common.{◌∙◌, ◌++◌, ap, List, ℕ}
 use Rattle.ghes_port.proofs.TableLemmas.{front_is}
 use Rattle.ghes_port.proofs.table.push_structure.Goals as goal
 

@@ -1,5 +1,4 @@
-use Rattle.std.proofs.Common.{◌≡◌, ◌++◌, ℕ, List, length, map, refl, ap, subst, arith}
-use Rattle.std.specs.Prelude.{codes}
+use Rattle.std.proofs.Common.{ℕ, List, length, map, refl, subst, arith}
 use Rattle.base_model.specs.Bytes.{SameOutside, joined}
 use Rattle.hest_sources.specs.Layout.{ghes_bytes}
 use Rattle.ghes_port.proofs.TableLemmas.{hest_is, unsealed_size}
@@ -11,7 +10,8 @@ returns c =
     let table = c.args.table.now in
     let few = c.requires.few in
     hest_is setups (length table) (length setups) (joined (map (λ s. ghes_bytes s.source) setups)) c.seal.new.table refl c.requires.fit (unsealed_size setups table c.requires.written)
-    c.requires.small refl (omega (arith, few)) (subst (λ (xs : List ℕ). SameOutside 9 1 xs c.seal.new.table) c.requires.written c.seal.ensures.others) c.seal.ensures.sum (omega (arith, c.type_inv.table 9))
+    c.requires.small refl (omega (arith, few)) (subst (λ (xs : List ℕ). SameOutside 9 1 xs c.seal.new.table) c.requires.written c.seal.ensures.others) c.seal.ensures.sum
+    (omega (arith, c.type_inv.table 9))
 
 pub seal-requires : goal.seal-requires
 seal-requires c = let size = unsealed_size c.args.setups.now c.args.table.now c.requires.written in omega (arith, size)

@@ -1,4 +1,4 @@
-use Rattle.std.proofs.Common.{◌≡◌, ◌∙◌, ℕ, ◌+◌, ◌-◌, ◌<◌, ◌≤◌, Bool, cond, List, ◌++◌, length, sym, ap, subst, arith, vec_capacity}
+use Rattle.std.proofs.Common.{◌≡◌, ◌∙◌, ℕ, ◌-◌, ◌<◌, Bool, cond, List, ◌++◌, length, sym, ap, subst, arith}
 use Rattle.base_model.proofs.BytesLemmas.{AreBytes-each}
 use Rattle.ghes_port.specs.Machine.{piece_at, IsGood}
 use Rattle.ghes_port.proofs.BlockLemmas.{good_of}

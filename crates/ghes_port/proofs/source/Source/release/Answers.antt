@@ -13,7 +13,8 @@ invariant_of-self c =
     let source = c.self.invariant.0 in
     let room = c.self.invariant.1 in
     let rest : blocks_of c.pop_front.new.self ≡ drop 1 (blocks_of c.self.inside.queue) = ap (map (λ v. v.items)) c.in-Some.ensures.rest ∙ sym (drop-map (λ v. v.items) 1 c.self.inside.queue.items) in
-    let good : All (IsGood len) (blocks_of c.pop_front.new.self) = subst (λ (bs : List (List ℕ)). All (IsGood len) bs) (sym rest) (All-drop (IsGood len) 1 (blocks_of c.self.inside.queue) source.good) in
+    let good : All (IsGood len) (blocks_of c.pop_front.new.self) = subst (λ (bs : List (List ℕ)). All (IsGood len) bs) (sym rest)
+    (All-drop (IsGood len) 1 (blocks_of c.self.inside.queue) source.good) in
     let count = room.count in
     let counted = room.counted in
     let popped = c.in-Some.ensures.cases in
@@ -31,6 +32,8 @@ invariant_of-self c =
         queue_room = omega (arith, queue_room, one);
         spare_room = omega (arith, spare_room, other);
         queue_wide = subst (λ (vs : List _). All (IsWide len) vs) (sym c.in-Some.ensures.rest) (All-drop (IsWide len) 1 c.self.inside.queue.items room.queue_wide);
-        spare_wide = rw c.push_reserved.ensures.items (All-more (IsWide len) c.self.inside.spare.items c.in-Some.block room.spare_wide ((subst (λ (vs : List _). All (IsWide len) vs) c.in-Some.ensures.items room.queue_wide) 0 c.in-Some.block (omega (arith))));
+        spare_wide = rw c.push_reserved.ensures.items
+            (All-more (IsWide len) c.self.inside.spare.items c.in-Some.block room.spare_wide
+            ((subst (λ (vs : List _). All (IsWide len) vs) c.in-Some.ensures.items room.queue_wide) 0 c.in-Some.block (omega (arith))));
       },
     )

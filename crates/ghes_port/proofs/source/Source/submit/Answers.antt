@@ -1,4 +1,4 @@
-use Rattle.std.proofs.Common.{◌≡◌, ◌∙◌, ℕ, ◌≤◌, ◌-◌, Bool, cond, List, [], ◌∷◌, ◌++◌, length, take, map, All, sym, ap, subst, arith, vec_len, vec_capacity, length-append}
+use Rattle.std.proofs.Common.{◌≡◌, ◌∙◌, ℕ, ◌≤◌, ◌-◌, Bool, cond, List, [], ◌∷◌, ◌++◌, length, map, All, sym, ap, subst, arith, vec_len, vec_capacity, length-append}
 use Rattle.std.proofs.lemmas.List.{map-append}
 use Rattle.std.proofs.lemmas.List.Elements.{All-take}
 use Rattle.std.proofs.lemmas.Grind.{common_steps}
@@ -22,7 +22,8 @@ copied c =
     let empty = c.clear.ensures.len in
     let same = c.clear.ensures.capacity in
     let ok = c.extend_from_slice.ensures.succeeds (omega (arith, cap, fits, empty, same)) in
-    c.extend_from_slice.ensures.items ∙ ap (λ (b : Bool). cond b (c.clear.new.self.items ++ c.args.block.now) c.clear.new.self.items) ok ∙ ap (λ (x : List ℕ). x ++ c.args.block.now) c.clear.ensures.items
+    c.extend_from_slice.ensures.items ∙ ap (λ (b : Bool). cond b (c.clear.new.self.items ++ c.args.block.now) c.clear.new.self.items) ok
+    ∙ ap (λ (x : List ℕ). x ++ c.args.block.now) c.clear.ensures.items
 
 more : (c : After-len) → blocks_of c.push_back_reserved.new.self ≡ blocks_of c.self.inside.queue ++ c.args.block.now ∷ []
 more c =
@@ -57,7 +58,8 @@ invariant_of-self-2 c =
       record {
         placed = source.placed;
         good = subst (λ (bs : List (List ℕ)). All (IsGood len) bs) (sym is) (All-more (IsGood len) queue c.args.block.now source.good (good at));
-        reached = subst (λ (bs : List (List ℕ)). IsReached c.self.inside.map bs c.self.inside.stage) (sym is) (reached_more c.self.inside.map queue c.args.block.now c.self.inside.stage c.in_default.ensures.fits.head source.reached);
+        reached = subst (λ (bs : List (List ℕ)). IsReached c.self.inside.map bs c.self.inside.stage) (sym is)
+            (reached_more c.self.inside.map queue c.args.block.now c.self.inside.stage c.in_default.ensures.fits.head source.reached);
       },
       record {
         count = omega (arith, count, popped, pushed);
