@@ -14,10 +14,11 @@ def pkg_config() -> str:
 
 
 def lay_out(archive: Path, folder: Path) -> None:
-    """Puts an archive of the crate apei_c, with memory from malloc, and what belongs to it into a folder."""
+    """Puts an archive of the crate apei_c, with memory from malloc and without, and what belongs to it into a folder."""
     folder.mkdir(parents=True, exist_ok=True)
     made = folder / "libapei.a"
     shutil.copyfile(archive, made)
+    shutil.copyfile(archive, folder / "libapei_bare.a")
     heap = folder / "heap_malloc.o"
     # Named from where it is, and without times, the archive is the same wherever it is made.
     subprocess.run(["cc", "-std=c11", "-O2", "-fPIC", "-c", "glue/heap_malloc.c", "-o", heap], cwd=TOP, check=True)

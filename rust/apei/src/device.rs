@@ -331,7 +331,9 @@ impl<M: Medium> Device<M> {
         }
         let bytes = self.medium.contents().map_err(Failure::Medium)?;
         // SAFETY: the bytes and the handle live as long as the call.
-        answer(unsafe { raw::apei_c_erst_failed(self.handle.erst(), bytes.as_ptr(), bytes.len()) })?;
+        answer(unsafe {
+            raw::apei_c_erst_failed(self.handle.erst(), bytes.as_ptr(), bytes.len())
+        })?;
         self.make_changes()?;
         self.is_behind = false;
         Ok(())
