@@ -6,3 +6,5 @@ pub mod Signatures
 pub mod Places
 pub mod Sentences
 pub mod Subjects
+pub mod Worst
+pub mod ErrorSections

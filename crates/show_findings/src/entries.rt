@@ -10,7 +10,7 @@ use apei_bytes::{bytes_at, get_u16, get_u32};
 // The bytes of a block's head, and those of an entry's, without a timestamp and with one (ACPI 6.4, section 18.3.2.7.1).
 const BLOCK: usize = 20;
 
-const HEAD: usize = 64;
+pub(crate) const HEAD: usize = 64;
 
 const STAMPED_HEAD: usize = 72;
 
@@ -55,13 +55,13 @@ pub fn data_entry_at(block: &[u8], at: usize) -> Option<DataEntry<'_>>
 }
 
 // The head and the entries of a block, without its raw data.
-fn data_part(block: &[u8]) -> &[u8]
+pub(crate) fn data_part(block: &[u8]) -> &[u8]
     ensures { result.now ≡ data_part block.now }
 {
     first(block, BLOCK + seen_u32(block, 12) as usize)
 }
 
-fn head_size(entry: &[u8]) -> usize
+pub(crate) fn head_size(entry: &[u8]) -> usize
     requires { 64 ≤ length entry.now }
     ensures { result ≡ size_of_head entry.now }
 {

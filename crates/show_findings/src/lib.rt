@@ -4,6 +4,7 @@
 mod bodies;
 mod bytes;
 mod entries;
+mod error_section;
 mod faults;
 mod items;
 mod kinds;
@@ -16,6 +17,7 @@ mod sources;
 mod subjects;
 mod tables;
 mod times;
+mod worst;
 
 pub use bodies::{add_dmesg, add_machine_check};
 pub use bytes::{seen_at, seen_u8, seen_u16, seen_u32, seen_u64};
@@ -28,3 +30,4 @@ pub use sections::{Section, section_at};
 pub use sources::{Source, source_at};
 pub use subjects::section_title;
 pub use tables::add_table;
+pub use worst::{Worst, worst_entry, worst_section};

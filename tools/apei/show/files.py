@@ -1,11 +1,12 @@
 """Files for apei-show: well-formed ones, each with the items that it holds, and such as no program makes."""
 
+import itertools
 import re
 from collections.abc import Iterator, Sequence
 from dataclasses import dataclass
 
-from apei import TOP, names
-from apei.bytes import number, spell
+from apei import TOP, frames, names
+from apei.bytes import guid_bytes, number, spell
 from apei.flash import Geometry
 from apei.items import ITEMS, Bad
 from apei.looks import PER_SLOT, SECTOR, Shown, flash_of, medium_header, seeming
@@ -46,6 +47,25 @@ def of_sections(chance: Chance, count: int) -> Iterator[Wanted]:
         cut = [(kind, body[: chance.below(len(body) + 1)]) for kind, body in some]
         yield of_kind("record", bodies.record(chance, *cut))
         yield of_kind("block", bodies.block(chance, *cut))
+
+
+def of_severities(chance: Chance) -> Iterator[Wanted]:
+    """Records and blocks of up to three sections of different types: of each severity, also of one that is none, and with each of the flags."""
+    kinds = [names.MEMORY, names.PCIE, names.PROCESSOR]
+    for count in (1, 2, 3):
+        records, blocks = b"", b""
+        for severities in itertools.product(range(5), repeat=count):
+            for flags in itertools.product((0, 1, 8), repeat=count):
+                told = list(zip(chance.of.sample(kinds, count), severities, flags))
+                sections = [
+                    frames.Section(bodies.BODIES[kind](chance), guid_bytes(kind), severity, bits=bytes(2) + spell(flag, 4))
+                    for kind, severity, flag in told
+                ]
+                entries = [frames.Entry(it.body, it.kind, it.severity, bits=bytes([0, it.bits[2]])) for it in sections]
+                records += frames.record_of(frames.Header(1, chance.below(4)), *sections)
+                blocks += frames.block_of(1 | count << 4, chance.below(4), b"".join(it.data for it in entries))
+        yield of_kind("record", records)
+        yield of_kind("block", blocks)
 
 
 def cut_sections(chance: Chance) -> Iterator[Wanted]:
@@ -171,6 +191,7 @@ def of_stores(chance: Chance) -> Iterator[Wanted]:
 
 def well_formed(chance: Chance, count: int) -> Iterator[Wanted]:
     yield from of_sections(chance, count)
+    yield from of_severities(chance)
     yield from cut_sections(chance)
     yield from of_tables(chance, count)
     yield from of_scripts()

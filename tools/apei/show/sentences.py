@@ -1,6 +1,8 @@
 """The first line that apei-show writes of a well-formed item: what happened, how severe, where, when."""
 
 import datetime
+from collections.abc import Iterator, Sequence
+from typing import NamedTuple
 
 from apei import names
 from apei.bytes import guid, number
@@ -23,6 +25,11 @@ SUBJECTS = {
     names.MACHINE_CHECK: "machine check",
     names.DMESG: "error, the kernel's log of it",
 }
+
+
+# The severities from the worst on (UEFI 2.8, N.2.1), and the flag of a section that a record is about (N.2.2).
+WORST = [1, 0, 2, 3]
+PRIMARY = 1
 
 
 def severity(found: int) -> str:
@@ -69,33 +76,73 @@ def place(kind: str, body: bytes) -> str:
     return ""
 
 
-def of_section(kind: str, body: bytes) -> str:
-    return SUBJECTS.get(kind, f"error of the unknown type {kind}") + place(kind, body)
+class Section(NamedTuple):
+    """What is said of a section, and its body."""
+
+    kind: str
+    severity: int
+    flags: int
+    body: bytes
+
+
+def of_section(it: Section) -> str:
+    return severity(it.severity) + SUBJECTS.get(it.kind, f"error of the unknown type {it.kind}") + place(it.kind, it.body)
+
+
+def worst(sections: Sequence[Section]) -> int:
+    """Which one is the worst. Of those that are equally bad it is a primary one, and of these the first."""
+
+    def order(index: int) -> tuple[int, bool, int]:
+        it = sections[index]
+        badness = WORST.index(it.severity) if it.severity in WORST else len(WORST)
+        return badness, not it.flags & PRIMARY, index
+
+    return min(range(len(sections)), key=order)
+
+
+def more(sections: Sequence[Section]) -> str:
+    return f", and {len(sections) - 1} more" if len(sections) > 1 else ""
+
+
+def sections_of(data: bytes) -> Iterator[Section]:
+    for at in range(128, 128 + 72 * number(data, 10, 2), 72):
+        it = data[at : at + 72]
+        body_at = number(it, 0, 4)
+        yield Section(guid(it[16:32]), number(it, 48, 4), number(it, 12, 4), data[body_at : body_at + number(it, 4, 4)])
 
 
 def of_record(data: bytes) -> str:
-    """Of the first section that its descriptor calls primary, or else of the first one."""
-    descriptors = [data[at : at + 72] for at in range(128, 128 + 72 * number(data, 10, 2), 72)]
-    main = next((it for it in descriptors if number(it, 12, 4) & 1), descriptors[0] if descriptors else None)
-    text = severity(number(data, 12, 4))
-    if main is None:
-        text += "error record without sections"
+    """Of its worst section, with that section's severity."""
+    sections = list(sections_of(data))
+    if sections:
+        text = of_section(sections[worst(sections)]) + more(sections)
     else:
-        at = number(main, 0, 4)
-        text += of_section(guid(main[16:32]), data[at : at + number(main, 4, 4)])
+        text = severity(number(data, 12, 4)) + "error record without sections"
     if number(data, 16, 4) & 2 == 0:
         return text
     return text + ", " + (when_of_linux(number(data, 24, 8)) if guid(data[64:80]) == LINUX else when(data[24:32]))
 
 
+def entries_of(data: bytes) -> Iterator[tuple[Section, bytes]]:
+    """The data entries of a block, each with its time, if it has one."""
+    at, end = 20, 20 + number(data, 12, 4)
+    while at < end:
+        head = data[at : at + 72]
+        has_time = number(head, 20, 2) >= 0x300
+        body_at = at + (72 if has_time else 64)
+        at = body_at + number(head, 24, 4)
+        time = head[64:72] if has_time and head[22] & 4 else b""
+        yield Section(guid(head[:16]), number(head, 16, 4), head[23], data[body_at:at]), time
+
+
 def of_block(data: bytes) -> str:
-    text = severity(number(data, 16, 4))
-    if number(data, 12, 4) == 0:
-        return text + "error status block without entries"
-    is_timed = number(data, 40, 2) >= 0x300
-    at = 92 if is_timed else 84
-    text += of_section(guid(data[20:36]), data[at : at + number(data, 44, 4)])
-    return text + (", " + when(data[84:92]) if is_timed and data[42] & 4 else "")
+    """Of its worst entry, with that entry's severity."""
+    entries = list(entries_of(data))
+    if not entries:
+        return severity(number(data, 16, 4)) + "error status block without entries"
+    sections = [section for section, _ in entries]
+    section, time = entries[worst(sections)]
+    return of_section(section) + more(sections) + (", " + when(time) if time else "")
 
 
 def of_table(data: bytes) -> str:
