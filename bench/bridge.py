@@ -5,7 +5,7 @@
 
 PROGRAM is the built program, by default crates/apei/out/apei; build it by ./apei sim </dev/null. Each of 10,000 blocks is handed over by
 ten turns under the bridge; beside it by the nine turns without it, and a `write` line stores the 292 bytes of its record. A `clear` line
-behind each keeps the store from filling, in both. It prints the median of RUNS runs (default 21) in milliseconds of either, less that of
+after each keeps the store from filling, in both. It prints the median of RUNS runs (default 21) in milliseconds of either, less that of
 the empty script, what that makes for a block, and the median of the ratios of each round. Then `play` stores one block and a thousand more
 in a file, and a few lines of C that cc compiles count the requests for memory of either.
 """

@@ -33,7 +33,7 @@ def table(count: int) -> bytes:
 
 
 def took(text: bytes, lines: int) -> float:
-    """Milliseconds of a run, which writes so many lines."""
+    """Milliseconds of a run, which writes N lines."""
     times = []
     for _ in range(runs(20)):
         one, written = milliseconds([program(), "check", "--show=HEAD|PARTS"], text)

@@ -1,6 +1,6 @@
 """What the benches share: where the programs are, runs that are timed, and C programs beside them.
 
-A bench is run by itself, as `bench/NAME.py`. Behind the import of this module it can import the package tools/apei.
+A bench is run by itself, as `bench/NAME.py`. After the import of this module it can import the package tools/apei.
 """
 
 import os
@@ -80,7 +80,7 @@ def over_files(words: Words, text: bytes, folder: Path) -> Timed:
 
 
 def compiled(source: str, path: Path, *words: str) -> Path:
-    """A C program, or a library where the words say so."""
+    """A C program, or a library if the words say so."""
     text = path.with_suffix(".c")
     text.write_text(source)
     subprocess.run(["cc", "-O2", *words, "-o", path, text], check=True)

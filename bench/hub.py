@@ -1,5 +1,5 @@
 #!/usr/bin/env python3
-"""Times a turn of one error source where it is alone and where it is one of 16, by the job `hub`.
+"""Times a turn of one error source, alone and as one of 16, by the job `hub`.
 
     bench/hub.py [PROGRAM]
 
@@ -27,7 +27,7 @@ PLACES = {"alone": (1, 0, 8), "first of 16": (16, 0, 8), "last of 16": (16, 15, 
 
 
 def lines(sources: int, at: int, stride: int, turns: str) -> bytes:
-    """Blocks for a source, and a line of turns behind each; one turn is a reader's that finds nothing."""
+    """Blocks for a source, and a line of turns after each; one turn is a reader's that finds nothing."""
     places = range(0x300000, 0x300000 + 2 * stride * sources, 2 * stride)
     table = hest([Source(ACKNOWLEDGED, address(place), address(place + stride)) for place in places])
     return script([f"hest {table.hex()}"] + [f"error {at} {raw_block(2, 4096).hex()}", "turns " + turns.replace("x", f"{at:x}")] * BLOCKS)

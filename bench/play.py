@@ -6,7 +6,7 @@
 PROGRAM is the built program, by default crates/apei/out/apei; build it by ./apei sim </dev/null. It writes 200 records of LENGTH bytes
 (default 368) over 20 identifiers, so that all but the first 20 writes replace a record, into a store of the default geometry. The bare
 loop is a C program that cc makes in a temporary folder: it writes the same numbers of bytes at the same places in the same order, a sync
-behind each. A run of an empty script makes the file. Then both take turns on it, RUNS times (default 21), in that folder; TMPDIR says
+after each. A run of an empty script makes the file. Then both take turns on it, RUNS times (default 21), in that folder; TMPDIR says
 where it lies. It prints the median of either in milliseconds, less that of the same program on the same file with nothing to write, what
 one change takes, and the median of the ratios of each turn.
 """

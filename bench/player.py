@@ -1,11 +1,11 @@
 #!/usr/bin/env python3
-"""Times what a player does most, and where two programs are given, one beside the other.
+"""Times what a player does most, and if two programs are given, one beside the other.
 
     bench/player.py PROGRAM [BEFORE] [RUNS]
 
 PROGRAM plays 10,000 writes over 32 and over 1,024 slots, 500,000 counts, 20,000 reads of a record of 8,128 bytes, 10,000 lines that run an
 action, 2,000 lines of 1,000 turns each with a block before every fourth, and 2,000 losses of power over 1,024 slots. For each it prints
-the median of RUNS runs (default 5) in milliseconds and the time of one line; beside it that of BEFORE where that program plays such lines.
+the median of RUNS runs (default 5) in milliseconds and the time of one line; beside it that of BEFORE if that program plays such lines.
 """
 
 import subprocess
@@ -31,7 +31,7 @@ class Job(NamedTuple):
 
 
 def play(player: str, words: list[str], text: bytes) -> float | None:
-    """Milliseconds of one run, or nothing where the program does not play it."""
+    """Milliseconds of one run, or nothing if the program does not play it."""
     start = time.perf_counter()
     done = subprocess.run([player, "sim", *words], input=text, stdout=subprocess.DEVNULL, stderr=subprocess.PIPE, check=False)
     took = (time.perf_counter() - start) * 1000

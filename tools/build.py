@@ -133,7 +133,6 @@ def furnish(room: pathlib.Path, name: str, of: Depends) -> None:
     """Puts into the room what a proof of the crate reads, and what an earlier one left of its work."""
     under = below(name, of)
     (room / ".git").mkdir(parents=True)
-    shutil.copy2(TOP / "HANDLES", room)
     lines = (TOP / "crates.txt").read_text().splitlines(True)
     (room / "crates.txt").write_text("".join(it for it in lines if it.partition(":")[0].split()[:1] in [[one] for one in under]))
     for crate in under:

@@ -17,7 +17,7 @@ from streams import Failed
 
 
 def write_new(path: Path, image: bytes) -> None:
-    """Writes a file that is not there yet; where the disk takes no more, none is left."""
+    """Writes a file that is not there yet; if the disk takes no more, none is left."""
     made = False
     try:
         with open(path, "xb") as file:

@@ -1,6 +1,6 @@
-"""What a program's status means, in plain words: lines that the scripts at the top add behind what the program itself said.
+"""What a program's status means, in plain words: lines that the scripts at the top add after what the program itself said.
 
-`explain` is asked only where a status is not 0. It looks at the words, at what was said, at the file that the words name, and at the
+`explain` is asked only if a status is not 0. It looks at the words, at what was said, at the file that the words name, and at the
 input as far as it is known; it changes nothing and runs nothing but `apei-look`.
 """
 
@@ -171,7 +171,7 @@ def reason(code: int) -> str:
 
 
 def why_file_fails(image: str) -> Optional[str]:
-    """Why the file of a flash can't be used, with the system's reason; None where nothing is seen that forbids it."""
+    """Why the file of a flash can't be used, with the system's reason; None if nothing is seen that forbids it."""
     folder = os.path.dirname(image) or "."
     if os.path.islink(image) and not os.path.exists(image):
         return f"{image} is a link that leads nowhere: there is no {os.path.realpath(image)}"
@@ -250,7 +250,7 @@ def which_bound(sector: int, per_slot: int, slots: int) -> Optional[str]:
 
 
 def what_fits(image: Optional[str], sector: int, per_slot: int, size: int) -> str:
-    """The options that would fit a file of so many bytes: by its heads where it has some, else by its length."""
+    """The options that would fit a file of N bytes: by its heads if it has some, else by its length."""
     seems = seen_heads(image) if image else None
     if seems:
         return (f"heads stand where slots of {seems['per_slot']} sectors of {seems['sector']} begin, and "
@@ -264,7 +264,7 @@ def what_fits(image: Optional[str], sector: int, per_slot: int, size: int) -> st
 
 
 def seen_heads(image: str) -> Optional[dict[str, Any]]:
-    """The geometry that a file seems to have, by apei-look where that is built."""
+    """The geometry that a file seems to have, by apei-look if that is built."""
     import json
     import subprocess
 

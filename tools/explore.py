@@ -1,7 +1,7 @@
 """Writes one page on a script and its flash: `tools/explore SCRIPT > page.html`.
 
-The page needs nothing else, no network and no other file. A slider goes over the flash changes; behind each the page shows the slots, the
-range that the next change is on, what is left where power is lost in it, the records that a boot then finds, and what the boot changes.
+The page needs nothing else, no network and no other file. A slider goes over the flash changes; after each the page shows the slots, the
+range that the next change is on, what is left if power is lost in it, the records that a boot then finds, and what the boot changes.
 What it shows of an image is what `apei-look` says of it, and the boots are those of `play`.
 """
 
@@ -63,7 +63,7 @@ class Looks:
 
 
 def short(slot: Json) -> Json:
-    """A slot without its marks where they say nothing more than its kind."""
+    """A slot without its marks if they say nothing more than its kind."""
     if slot["kind"] == "erased":
         return {"kind": "erased"}
     named = slot["kind"] not in ("unknown",) and slot["format"] != 0xFFFF

@@ -24,8 +24,9 @@ PROGRAMS = {"apei": "plays scripts on the machine, and checks tables and records
 TOOLS = {"sweep": "loses power in each change of a script", "cut": "leaves the image of one loss of power",
          "explore": "writes a page on a script and its flash"}
 # What the programs and the tools for scripts read beside themselves.
-READ = "python", "start.py", "parser.py", "launch", "launcher.py", "streams.py", "installed.py", "lines.py", "words.py", "explain.py", "explore.html"
+READ = "python", "start.py", "parser.py", "launch", "launcher.py", "streams.py", "installed.py", "lines.py", "words.py", "explain.py", "shown.py", "packed.py", "watch.py", "here.py", "kept.py", "pci_names.py", "explore.html"
 EXAMPLES = "scripts to play"
+EXAMPLES_FOLDER = "share/apei/examples"
 # The status of ./libapei where something is missing that the library is made with.
 LACKS = 69
 LIBRARY = {"libapei.a": "the library for C and Rust", "apei.h": "its header, with every call",
@@ -72,8 +73,10 @@ def tools() -> Iterator[Part]:
 def pages() -> Iterator[Part]:
     for path in sorted((TOP / "docs").glob("*.1")):
         yield Part(f"share/man/man1/{path.name}", path, what=f"the man page {path.stem}(1)")
-    for path in sorted((TOP / "examples").glob("*.script")):
-        yield Part(f"share/apei/examples/{path.name}", path, what=EXAMPLES)
+    for path in sorted((TOP / "examples").glob("*/script")):
+        yield Part(f"{EXAMPLES_FOLDER}/{path.parent.name}/script", path, what=EXAMPLES)
+    for path in sorted((TOP / "docs").glob("apei-watch.*")):
+        yield Part(f"share/apei/{path.name}", path, what="for systemd, which looks for new errors each hour by it")
 
 
 def library(folder: Optional[Path]) -> Iterator[Part]:
@@ -149,8 +152,8 @@ def install(prefix: Path, given: argparse.Namespace) -> None:
 def lists(prefix: Optional[Path]) -> None:
     """What there is to install, or what of it is in a folder."""
     there = [it for it in (*programs(), *tools(), *pages(), *library(None)) if it.what and (prefix is None or os.path.lexists(prefix / it.place))]
-    # The examples are listed by their folder.
-    rows = {os.path.dirname(it.place) if it.what == EXAMPLES else it.place: it.what for it in there}
+    # The examples are listed by the folder of all.
+    rows = {EXAMPLES_FOLDER if it.what == EXAMPLES else it.place: it.what for it in there}
     for place, what in rows.items():
         print(f"{place:42} {what}")
 

@@ -8,6 +8,7 @@
   of the geometry, none of ours, or a library's medium ends the run with status 6 before anything is touched, but behind the word --force before
   the job.
 - `apei-look`: the bytes of a record are not written to a terminal, but behind the word --force.
+- `apei-show`: logs that Linux packed are shown unpacked, too (tools/shown.py).
 - Signals are passed on, and the script ends when the program has.
 - Where the status is not 0, lines in plain words come behind what the program said (tools/explain.py).
 
@@ -20,7 +21,7 @@ import stat
 import subprocess
 import sys
 import threading
-from typing import Any, NamedTuple, Optional
+from typing import Any, Callable, NamedTuple, Optional
 
 import streams
 from installed import in_place
@@ -157,6 +158,8 @@ class Input:
 
     def __init__(self, program: Program, words: list[str]) -> None:
         self.kept = bytearray()
+        # What was read before the program began.
+        self.ahead = b""
         self.start: Optional[int] = None
         self.failed: Optional[OSError] = None
         try:
@@ -172,11 +175,30 @@ class Input:
         self.fills = program.name == "apei"
 
     def read(self) -> bytes:
+        if self.ahead:
+            ahead, self.ahead = self.ahead, b""
+            return ahead
         try:
             return os.read(0, 1 << 16)
         except OSError as error:
             self.failed = error
             return b""
+
+    def whole(self, most: int) -> Optional[bytes]:
+        """All of it, up to a number of bytes, where it can be known before the program reads it."""
+        if self.comes_through:
+            pieces, size = list[bytes](), 0
+            while size <= most and (data := self.read()):
+                pieces.append(data)
+                size += len(data)
+            self.ahead = b"".join(pieces)
+            return self.ahead
+        if self.start is None:
+            return None
+        try:
+            return os.pread(0, most + 1, self.start)
+        except OSError:
+            return None
 
     def pump(self, sink: int) -> None:
         """Gives the program what comes, as it comes."""
@@ -220,7 +242,33 @@ class Ended(NamedTuple):
     said: bytes
 
 
-def run(words: list[str], given: Input) -> Ended:
+class Output:
+    """Standard output, where what the program writes there comes through here, line by line."""
+
+    def __init__(self, line_of: Callable[[bytes], bytes]) -> None:
+        self.line_of = line_of
+        self.failed: Optional[OSError] = None
+
+    def pump(self, source: int) -> None:
+        """Writes what the program writes, up to its end. Where nothing more can be written, the program is told so."""
+        out = bytearray()
+        with os.fdopen(source, "rb") as lines:
+            for line in lines:
+                out += self.line_of(line)
+                if len(out) >= 1 << 16 and not self.write(out):
+                    return
+            self.write(out)
+
+    def write(self, out: bytearray) -> bool:
+        try:
+            while out:
+                del out[: os.write(1, out)]
+        except OSError as error:
+            self.failed = error
+        return self.failed is None
+
+
+def run(words: list[str], given: Input, output: Optional[Output] = None) -> Ended:
     """Runs a program on standard input; signals that come meanwhile are passed on to it."""
     early: list[int] = []
     child: list[subprocess.Popen[bytes]] = []
@@ -238,19 +286,26 @@ def run(words: list[str], given: Input) -> Ended:
         source, sink = os.pipe()
     else:
         source, sink = 0, -1
-    started = subprocess.Popen(words, stdin=source, stderr=subprocess.PIPE)
+    started = subprocess.Popen(words, stdin=source, stdout=subprocess.PIPE if output else None, stderr=subprocess.PIPE)
     child.append(started)
     for early_one in early:
         started.send_signal(early_one)
     if given.comes_through:
         os.close(source)
         threading.Thread(target=given.pump, args=(sink,), daemon=True).start()
+    written = None
+    if output and started.stdout:
+        written = threading.Thread(target=output.pump, args=(os.dup(started.stdout.fileno()),))
+        started.stdout.close()
+        written.start()
     said = bytearray()
     assert started.stderr
     # What is said passes through as it comes.
     while data := os.read(started.stderr.fileno(), 1 << 16):
         said += data
         write_all(2, data)
+    if written:
+        written.join()
     return Ended(started.wait(), bytes(said))
 
 
@@ -358,7 +413,15 @@ def launch(program: Program, words: list[str]) -> int:
         program.say("the bytes of a record are not written to a terminal. Send them to a file or a pipe; --force writes them all the same.")
         return 4
     given = Input(program, words)
-    ended = run([program.path, *words], given)
+    if program.name == "apei-show":
+        from shown import show
+
+        return show(program, words, given, is_old)
+    return told(program, words, given, run([program.path, *words], given), is_old)
+
+
+def told(program: Program, words: list[str], given: Input, ended: Ended, is_old: bool) -> int:
+    """Says what there is to say of a run that has ended, and answers its status."""
     if is_old:
         program.say("the sources are newer than the program, which was run as it is: there is no toolchain here to build it")
     if ended.status < 0:

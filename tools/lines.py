@@ -101,7 +101,7 @@ def names_files(text: bytes) -> bool:
 
 
 def why_not_filled(named: Named) -> str:
-    """What is said where the program refused a line whose bytes are those of a file."""
+    """What is said if the program refused a line whose bytes are those of a file."""
     if named.why:
         return f"{named.path}: {named.why}"
     more = " or more" if named.size == MOST else ""

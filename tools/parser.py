@@ -1,4 +1,4 @@
-"""The command line of a tool: words that are none of its words end it with status 2, also where standard error takes nothing."""
+"""The command line of a tool: words that are none of its words end it with status 2, also if standard error takes nothing."""
 
 import argparse
 from typing import NoReturn

@@ -27,7 +27,7 @@ LLVM, RATTLE = COMPILERS
 VERSION = "1.0.0"
 READ_ME = """apei {version}
 
-    bin/apei sim < examples/two-records.script
+    bin/apei sim < examples/two-records/script
 
 plays a script on a simulated machine whose hardware error records survive its reset. bin/apei --help lists the jobs, and
 man -M share/man apei is its man page. The scripts in bin want Python 3.9, those named apei-sweep, apei-cut and apei-explore 3.10. The programs
@@ -39,8 +39,8 @@ lib/rattle          the same by the other compiler: faster code, that wants no v
 lib/pkgconfig       for pkg-config: libapei, and libapei-rattle
 include/apei.h      the library's header, with every call
 rust/apei           the crate for Rust, which takes lib/libapei.a
-examples            scripts with their replies; embed has a firmware in C and a monitor in Rust
-share               man pages, completions of words for bash, and memory from one array for a firmware without malloc
+examples            scripts with their replies; embed has a firmware in C, and a monitor and error sources in Rust
+share               man pages, completions of words for bash, units for systemd, and memory from one array for a firmware without malloc
 licences            of what is linked in
 ABOUT               the commit, the toolchain, and what the tests counted
 SHA256SUMS          sha256sum -c SHA256SUMS checks each file

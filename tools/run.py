@@ -1,6 +1,6 @@
 """Runs one of the tools of gate/ or dev/: `tools/run NAME [WORD..]`; without a name it lists them.
 
-The exit status is that of the tool: 0 where what it compares is equal. README.md, beside this file, says who runs which.
+The exit status is that of the tool: 0 if what it compares is equal. README.md, beside this file, says who runs which.
 """
 
 import importlib

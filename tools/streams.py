@@ -26,7 +26,7 @@ def is_ignored(number: int) -> bool:
 
 
 def say(name: str, text: str) -> None:
-    """Says something on standard error, where that can be written."""
+    """Says something on standard error, if that can be written."""
     write_all(2, f"{name}: {text}\n".encode(errors="backslashreplace"))
 
 
@@ -39,7 +39,7 @@ def write_all(sink: int, data: bytes) -> None:
 
 
 def input_of(path: str) -> bytes:
-    """The bytes of a file, or of standard input where the path is `-`."""
+    """The bytes of a file, or of standard input if the path is `-`."""
     try:
         if path == "-":
             return sys.stdin.buffer.read()
@@ -50,11 +50,15 @@ def input_of(path: str) -> bytes:
 
 
 def of_error(error: OSError) -> Failed:
-    """What an error of the system ends a script with: it is that of standard output where it names no file."""
+    """What an error of the system ends a script with: it is that of standard output if it names no file."""
     if error.filename is None:
         return Failed(NOT_WRITTEN, f"standard output: {error.strerror}")
     name = os.fsdecode(error.filename) if isinstance(error.filename, (str, bytes)) else str(error.filename)
     return Failed(NO_FILE, f"{name}: {error.strerror}")
+
+
+def reason_of(error: OSError) -> str:
+    return error.strerror or str(error)
 
 
 def flush() -> None:
@@ -89,7 +93,7 @@ def status_of(work: Callable[[], int]) -> int:
 
 
 def end(name: str, work: Callable[[], int], interrupted: str = "interrupted") -> NoReturn:
-    """Does the work of a script, and ends it by the status of that: or by a sentence and a status where something forbids it."""
+    """Does the work of a script, and ends it by the status of that: or by a sentence and a status if something forbids it."""
     failed: Optional[Failed] = None
     try:
         if not is_ignored(signal.SIGINT):

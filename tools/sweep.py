@@ -4,7 +4,7 @@ A case is one run of `sim`: the script, or its lines up to the one in which powe
 that the script stores. The records have to be those after the writes and clears that the replies acknowledge, the one that was refused as
 `hardware` being in or out. A hundred cases have a line each, and the last line is the verdict, 'N cases, M wrong'. The first case that is
 wrong is shown with the words that play it again, and with --keep=DIR its script and its image are left there. Cases run side by side, on
-all processors. The exit status is 0 where none is wrong.
+all processors. The exit status is 0 if none is wrong.
 """
 
 import argparse
@@ -141,7 +141,7 @@ class Sweep:
         return replace(self.job, script=b"\n".join(self.job.script.split(b"\n")[: last + 1]))
 
     def found(self, asked: list[str]) -> Records | None:
-        """The records that were read behind the last line of the script; None where they were not."""
+        """The records that were read after the last line of the script; None if they were not."""
         if not asked[0].startswith("power"):
             return None
         records: Records = {}
@@ -159,7 +159,7 @@ def shown(records: Records) -> str:
 
 
 def keep(folder: Path, job: Job, case: Case) -> None:
-    """Leaves the script of a case, and its image where power was lost."""
+    """Leaves the script of a case, and its image if power was lost."""
     folder.mkdir(parents=True, exist_ok=True)
     (folder / "script").write_bytes(job.script)
     (folder / "words").write_text(" ".join(["sim", *job.words, *case.words]) + "\n")

@@ -35,6 +35,7 @@ static struct answer answer_to(void *old, size_t size, size_t alignment)
     struct answer answer = {false, nowhere};
     void **place = place_of(old), *block;
     heap.requests++;
+    heap.bytes += size;
     heap.strange += place == NULL;
     if (place == NULL || heap.answered == 0 || alignment > ALIGNMENT)
         return answer;

@@ -2,8 +2,8 @@
  * Opens, uses and closes devices, and counts the memory that the archive takes and gives back. In each of the four ways of
  * opening, over two geometries:
  *
- *   - an opening takes 12 blocks, and no call between it and the close takes or gives back any, but that a device whose
- *     medium failed a change takes 11 and gives back as many;
+ *   - an opening takes 12 blocks, with as many bytes as apei_memory_size tells, and no call between it and the close takes or gives
+ *     back any, but that a device whose medium failed a change takes 11 and gives back as many;
  *   - a close gives each block back, once;
  *   - an opening that is refused has given back what it took: with each request for memory refused, and for each other reason;
  *   - so it is over each medium that power lost in a replacement leaves: an opening ends the older one of two records there.
@@ -45,8 +45,11 @@ static void open_and_close(struct opening *with, void (*use)(struct opening *wit
 {
     apei_erst erst = {0};
     unsigned before = heap.requests;
+    size_t bytes = heap.bytes;
+    uint64_t told = 0;
     expect(try_open(with, &erst) == APEI_OK, "it is refused");
     expect(heap.requests == before + BLOCKS && heap.held == BLOCKS, "it takes another number of blocks");
+    expect(apei_memory_size(&with->geometry, &told) == APEI_OK && heap.bytes - bytes == told, "it takes another number of bytes");
     drain(with, &erst);
     use(with, &erst);
     expect(try_open(with, &erst) == APEI_OPEN, "a device is opened twice");

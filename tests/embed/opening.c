@@ -3,6 +3,8 @@
 #include <limits.h>
 #include <string.h>
 
+enum { PAGE = 256 };
+
 bool is_raw(const struct opening *with)
 {
     return with->way == OPEN_RAW || with->way == LOAD_RAW;
@@ -19,15 +21,23 @@ static size_t origin(const struct opening *with)
     return is_raw(with) ? with->geometry.sector : 0;
 }
 
+/* As SPI NOR flash does it: behind the end of a page the next byte is the page's first one. */
+static void program(uint8_t *medium, size_t at, const uint8_t *bytes, size_t length)
+{
+    size_t page = at / PAGE * PAGE;
+    for (size_t i = 0; i < length; i++)
+        medium[page + (at + i) % PAGE] = bytes[i];
+}
+
 static void make(struct opening *with, const apei_change *change, const uint8_t *bytes, size_t from)
 {
-    uint8_t *at = with->medium + from + change->offset;
+    size_t at = from + change->offset;
     if (with->changes++ >= with->lost_at)
         return;
     if (change->kind == APEI_ERASE)
-        memset(at, 0xFF, change->length);
+        memset(with->medium + at, 0xFF, change->length);
     else
-        memcpy(at, bytes, change->length);
+        program(with->medium, at, bytes, change->length);
 }
 
 void drain(struct opening *with, apei_erst *erst)

@@ -59,7 +59,7 @@ class Numbers:
         self.bodies = {found[1]: found[3].strip() for text in texts for found in MACRO.finditer(text) if not found[2]}
 
     def value(self, body: str, depth: int = 0) -> int | None:
-        """The value of an expression of numbers, bits and other macros; none where there is anything else."""
+        """The value of an expression of numbers, bits and other macros; none if there is anything else."""
         body = re.sub(r"\b(0[xX][0-9a-fA-F]+|\d+)[uUlL]+\b", r"\1", body)
         body = re.sub(r"\(\s*(?:(?:u|UINT|__u)(?:8|16|32|64)|\w+_type)\s*\)", "", body)
         body = re.sub(r"\bBIT(?:_ULL)?\s*\(([^()]*)\)", r"(1 << (\1))", body)

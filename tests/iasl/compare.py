@@ -3,9 +3,9 @@
 
     tests/iasl/compare.py IASL PROGRAM [TABLES] [SEED]
 
-IASL is the disassembler, PROGRAM the built apei-show; TABLES of each kind, 50 where it is not said, are drawn at random. Each field that IASL names has
+IASL is the disassembler, PROGRAM the built apei-show; TABLES of each kind, 50 if it is not said, are drawn at random. Each field that IASL names has
 to be one of apei-show's, at the same place in its entry, source or bank and with the same value, but reserved ones. The last line is
-'N fields of M tables, K wrong'; the exit status is 0 where none is.
+'N fields of M tables, K wrong'; the exit status is 0 if none is.
 """
 
 import json
@@ -131,7 +131,7 @@ def plain(value: Any) -> Any:
 
 
 def places(groups: list[dict[str, Any]]) -> dict[int, dict[str, Any]]:
-    """apei-show's groups and banks by where their fields begin; those of the header and behind it are both counted from the table's start."""
+    """apei-show's groups and banks by where their fields begin; those of the header and after it are both counted from the table's start."""
     found: dict[int, dict[str, Any]] = {}
     for group in groups:
         found[group["offset"]] = {**found.get(group["offset"], {}), **group}

@@ -51,7 +51,7 @@ class Kind:
 
 
 def kit() -> Path | None:
-    """The toolchain's folder, where all is there that the archives are built over; None where there is no rt."""
+    """The toolchain's folder, where all is there that the archives are built over; None if there is no rt."""
     command = shutil.which("rt")
     return Path(command).resolve().parent.parent if command else None
 

@@ -15,7 +15,7 @@ def spell(value: int, size: int) -> bytes:
 
 
 def joined(*fields: tuple[int, int]) -> bytes:
-    """Numbers one behind another, each with its size in bytes."""
+    """Numbers one after another, each with its size in bytes."""
     return b"".join(spell(value, size) for value, size in fields)
 
 

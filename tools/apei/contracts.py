@@ -39,7 +39,7 @@ class Function:
 
 
 def end_of_group(text: str, start: int) -> int:
-    """Where a group ends that is opened at a place: the place behind its last sign."""
+    """Where a group ends that is opened at a place: the place after its last sign."""
     depth = 0
     for at in range(start, len(text)):
         depth += (text[at] in OPENS) - (text[at] in CLOSES)
@@ -130,14 +130,19 @@ def at_top(text: str, sign: str) -> list[str]:
 
 
 def is_binder(part: str) -> bool:
-    """Whether a part is nothing but variables with their types, as `(a b : T) (c : U)`."""
+    """Whether a part is nothing but variables with their types, as `(a b : T) (c : U)`. A premise may have a name too, as `(small : a < b)`."""
     rest = part
     while rest.startswith(("(", "{")):
         end = end_of_group(rest, 0)
-        if not re.match(r"[({][^():]+ : ", rest[:end]):
+        if not re.match(r"[({][^():]+ : ", rest[:end]) or is_relation(rest[1 : end - 1].partition(" : ")[2]):
             return False
         rest = rest[end:].strip()
     return rest == "" and part != ""
+
+
+def is_relation(text: str) -> bool:
+    """Whether a text compares two values."""
+    return any(len(at_top(text, sign)) > 1 for sign in "≡≢≤<↔")
 
 
 def premises(text: str) -> list[str]:

@@ -4,7 +4,7 @@ from collections.abc import Iterator
 
 from apei import TOP
 
-# Each crate with the names behind it.
+# Each crate with the names after it.
 Depends = dict[str, list[str]]
 
 

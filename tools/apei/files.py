@@ -15,7 +15,7 @@ def play(program: Program, image: Path, lines: Iterable[str], before: Sequence[s
 
 
 def records_in(program: Program, image: Path, identifiers: Sequence[int]) -> dict[int, bytes] | None:
-    """The records of these identifiers that the program reads from a file; None where it doesn't come to them."""
+    """The records of these identifiers that the program reads from a file; None if it doesn't come to them."""
     done = play(program, image, [*(f"read {identifier}" for identifier in identifiers), "count"])
     replies = done.words
     if done.status or len(replies) != len(identifiers) + 1:

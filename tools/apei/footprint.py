@@ -12,9 +12,10 @@ from apei.machine_code import Code, Unknown
 PAGE = TOP / "docs" / "EMBED.md"
 # The archives, in the order of the page's columns.
 COLUMNS = "llvm", "general", "rattle", "arm"
-# The calls that open a device, and those for a guest's access and the changes after it.
-OPENS = re.compile(r"apei_c_erst_(open|load|failed)")
-ACCESSES = re.compile(r"apei_c_erst_(read|write|get|put|change|done)$")
+# The calls that open a device, sources or a region, and those for an access and what comes after it.
+OPENS = re.compile(r"apei_c_(erst_(open|load|failed)|(ghes|boot)_open)")
+ACCESSES = re.compile(r"apei_c_(erst_(read|write|get|put|change|done)|(ghes|boot)_(access|done))$")
+CLIENT = re.compile(r"apei_c_client_")
 
 
 def up(count: int, unit: int) -> int:
@@ -44,13 +45,14 @@ class Footprint:
             stacks, below = code.stacks(), code.below()
         except Unknown as why:
             return cls({}, vectors, (f"{archive.name}: {why}",))
-        other = [it for it in stacks if not OPENS.match(it) and not ACCESSES.match(it)]
+        other = [it for it in stacks if not any(kind.match(it) for kind in (OPENS, ACCESSES, CLIENT))]
         cells = {
             "code and constants": f"{code.size / 1000:.0f} kB",
             "instructions with vector registers": f"{up(sum(code.vector_names.values()), 100):,}",
             "accesses of memory below the stack pointer": f"{len(below)}",
             "greatest stack of a call that opens a device": most(stacks[it] for it in stacks if OPENS.match(it)),
             "greatest stack of an access or a change": most(stacks[it] for it in stacks if ACCESSES.match(it)),
+            "greatest stack of a client's call": most(stacks[it] for it in stacks if CLIENT.match(it)),
             "greatest stack of any other call": most(stacks[it] for it in other),
         }
         return cls(cells, vectors, tuple(f"{archive.name}: {it}" for it in below))

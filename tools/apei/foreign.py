@@ -19,7 +19,7 @@ FORMATS = *(f"crates/{name}/" for name in CRATES), "tools/apei/show/layouts.py",
 
 @dataclass
 class Table:
-    """A table: whether its numbers are those of bits, what says it where nothing foreign does, and the facts of each row."""
+    """A table: whether its numbers are those of bits, what says it if nothing foreign does, and the facts of each row."""
 
     bits: bool = False
     own: bool = False

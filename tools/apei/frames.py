@@ -44,14 +44,14 @@ class Header:
     persistence: bytes = bytes(8)
 
     def of(self, sections: int, length: int) -> bytes:
-        """The header of a record of so many sections and so many bytes in all."""
+        """The header of a record of N sections and M bytes in all."""
         start = b"CPER\1\1" + b"\xff" * 4 + joined((sections, 2), (self.severity, 4), (self.valid, 4), (length, 4))
         names = self.platform + self.partition + self.creator + self.notification
         return start + self.time + names + joined((self.identifier, 8), (self.flags, 4)) + self.persistence + bytes(12)
 
 
 def record_of(header: Header, *sections: Section) -> bytes:
-    """A record: the header, a descriptor of each section, and the sections, one behind another."""
+    """A record: the header, a descriptor of each section, and the sections, one after another."""
     at, descriptors = HEADER + DESCRIPTOR * len(sections), b""
     for section in sections:
         descriptors += section.descriptor(at)
@@ -96,7 +96,7 @@ class Entry:
 
 
 def block_of(status: int, severity: int, entries: bytes, raw: bytes = b"", raw_offset: int = 0, gap: bytes = b"") -> bytes:
-    """A block: its head, the bytes of its entries, and raw data behind a gap."""
+    """A block: its head, the bytes of its entries, and raw data after a gap."""
     head = joined((status, 4), (raw_offset, 4), (len(raw), 4), (len(entries), 4), (severity, 4))
     return head + entries + gap + raw
 

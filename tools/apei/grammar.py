@@ -72,7 +72,7 @@ def reach(parts: list[Part], text: bytes) -> tuple[int, bool]:
 
 
 def column(job: str, text: bytes) -> int:
-    """One more than the length of the longest beginning with which some line of a job begins; 0 where the text is a line."""
+    """One more than the length of the longest beginning with which some line of a job begins; 0 if the text is a line."""
     if text[:1] in (b"", b"#"):
         return 0
     found = [reach(parts, text) for parts in GRAMMARS[job]]

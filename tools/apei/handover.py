@@ -13,7 +13,7 @@ def wants(mask: int, severity: int) -> bool:
 
 
 class Handover:
-    """One source's handover; one without an acknowledge register is acknowledged where its status is cleared."""
+    """One source's handover; one without an acknowledge register is acknowledged by the clearing of its status."""
 
     def __init__(self, has_register: bool = True) -> None:
         self.has_register = has_register

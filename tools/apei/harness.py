@@ -50,7 +50,7 @@ class Ended:
 
     @property
     def steps(self) -> list[int]:
-        """The number of changes behind each reply."""
+        """The number of changes after each reply."""
         return [int(reply.rsplit(" @", 1)[1]) for reply in self.replies]
 
 
@@ -65,7 +65,7 @@ class Program:
         return cls(TOP / "crates" / crate / "out" / crate)
 
     def run(self, *words: str | bytes | Path, given: bytes = b"", before: Sequence[str] = (), **options: Any) -> Ended:
-        """A run on an input, by the words of another command before it where there are some."""
+        """A run on an input, by the words of another command before it if there are some."""
         streams: dict[str, Any] = {"stdout": subprocess.PIPE, "stderr": subprocess.PIPE, **options}
         if "stdin" not in streams:
             streams["input"] = given
@@ -98,7 +98,7 @@ class Tally:
         self.noun, self.cases, self.wrong = noun, 0, 0
 
     def expect(self, right: bool, what: str) -> None:
-        """Counts a case, and says what came where it is wrong."""
+        """Counts a case, and says what came if it is wrong."""
         self.add([] if right else [what])
 
     def add(self, found: Iterable[str]) -> None:
@@ -116,7 +116,7 @@ class Tally:
 
 
 def one_by_one(job: Callable[[Case], Answer], cases: Iterable[Case]) -> Iterator[Answer]:
-    """The answers of a job for each case, on all processors, as they come. Where it is interrupted, no further case is begun."""
+    """The answers of a job for each case, on all processors, as they come. If it is interrupted, no further case is begun."""
     lanes = ThreadPoolExecutor(os.cpu_count())
     try:
         yield from lanes.map(job, cases)

@@ -13,7 +13,7 @@ from apei.handover import WANTS, Handover, wants
 
 PLAIN, ACKNOWLEDGED = 9, 10
 MOST_SOURCES, LEAST_BLOCK, MOST_BLOCK = 16, 20, 4096
-# Where the firmware's buffers of blocks stand, one behind another.
+# Where the firmware's buffers of blocks stand, one after another.
 BUFFERS, BUFFER_STRIDE = 0x10000000, 0x10000
 
 
@@ -40,12 +40,12 @@ def acknowledged() -> Source:
 
 
 def hest(sources: Sequence[Source], others: int = 0) -> bytes:
-    """A table of these sources, behind some structures of type 6."""
+    """A table of these sources, after some structures of type 6."""
     return tables.hest((b"\6\0" + bytes(46)) * others + b"".join(source.data for source in sources), others + len(sources))
 
 
 def raw_block(severity: int, size: int) -> bytes:
-    """A block of so many bytes, all of them raw data but the head."""
+    """A block of N bytes, all of them raw data but the head."""
     raw = bytes(at & 255 for at in range(size - 20))
     return block_of(0x11, severity, b"", raw, 20 if raw else 0)
 

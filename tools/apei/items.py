@@ -8,9 +8,9 @@ from collections.abc import Callable
 from apei.bytes import guid, number
 from apei.frames import DESCRIPTOR, HEADER, severity_of
 
-# What is read of an item: its length, what its line says behind that, and the lines of its parts.
+# What is read of an item: its length, what its line says after that, and the lines of its parts.
 Reading = tuple[int, str, list[str]]
-# The sizes of a HEST's structures, and of those that banks stand behind, with the place of their number.
+# The sizes of a HEST's structures, and of those that banks stand after, with the place of their number.
 FIXED = {2: 20, 6: 48, 7: 44, 8: 56, 9: 64, 10: 92}
 BANKED = {0: (40, 32), 1: (48, 44), 11: (48, 44)}
 BANK = 28

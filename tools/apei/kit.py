@@ -13,7 +13,7 @@ USES = re.compile(r"^\s*(?:pub(?:\([a-z]+\))? )?use ([a-z][a-z0-9_]*)(?:::|;)", 
 
 
 def kit() -> Path | None:
-    """The folder of the toolchain, where there is one."""
+    """The folder of the toolchain, if there is one."""
     command = shutil.which("rt")
     return Path(command).resolve().parent.parent if command else None
 

@@ -29,12 +29,12 @@ SIGNATURE = b"APEIERST"
 
 
 def flash_of(image: bytes) -> Geometry:
-    """The geometry of an image of so many bytes."""
+    """The geometry of an image of N bytes."""
     return Geometry(SECTOR, PER_SLOT, len(image) // SIZE)
 
 
 def heads_in(image: bytes, sector: int, per_slot: int) -> int:
-    """How many slots of this form have the head of a record's first slot, be it killed or not; none where the length is another."""
+    """How many slots of this form have the head of a record's first slot, be it killed or not; none if the length is another."""
     size = sector * per_slot
     slots, rest = divmod(len(image), size)
     if rest or not 2 <= slots <= 1024 or size > 65536 + 64 or len(image) > 2**26:
@@ -55,7 +55,7 @@ class Form(NamedTuple):
 
 
 def seeming(image: bytes) -> Form:
-    """The form of which an image has most heads; no heads where it seems to have none."""
+    """The form of which an image has most heads; no heads if it seems to have none."""
     best = Form(0, 0, 0)
     for per_slot in range(2, 17):
         for sector in [256 << bit for bit in range(8)]:
@@ -109,7 +109,7 @@ class Record:
 
 
 class Shown:
-    """The kinds of an image's slots, its records by their first slots, its totals, and what kind of file it is, of which so many bytes are
+    """The kinds of an image's slots, its records by their first slots, its totals, and what kind of file it is, of which N bytes are
     there: a flash alone, or a library's medium."""
 
     def __init__(self, image: bytes, held: int | None = None, is_medium: bool = False) -> None:
@@ -222,7 +222,7 @@ def severity_name(severity: int) -> str | None:
 
 
 def frame_of(body: bytes) -> Json | None:
-    """What an error record says of itself; none where the bytes are none."""
+    """What an error record says of itself; none if the bytes are none."""
     if body[:4] != b"CPER":
         return None
     severity, notification = number(body, 12, 4), guid(body, 80)
@@ -238,7 +238,7 @@ def frame_of(body: bytes) -> Json | None:
 
 
 def time_of(body: bytes) -> Json:
-    """A record's time, whether it is that of the error, and the bytes in its place where they are none."""
+    """A record's time, whether it is that of the error, and the bytes in its place if they are none."""
     none = {"time": None, "precise": False, "time_bytes": None}
     if number(body, 16, 4) & 2 == 0:
         return none

@@ -2,7 +2,7 @@
 
 From each function that the archive exports each way through its instructions is followed, and on each the distance of the stack pointer from
 where it stood when the function was called. A call adds what the function called takes. Functions of the program, as `memcpy`, count as nothing
-beside the address that a call of them returns to. Where the distance is not a constant, or a call or jump leads somewhere unknown, or a
+beside the address that a call of them returns to. If the distance is not a constant, or a call or jump leads somewhere unknown, or a
 function calls itself, `Unknown` says so: nothing is counted then.
 """
 
@@ -24,6 +24,10 @@ INSTRUCTION = re.compile(rf"^\s*([0-9a-f]+):\t{PREFIXES}(\S+)\s*(.*?)\s*$")
 RELOCATION = re.compile(r"^\s*[0-9a-f]+: (R_\w+)\t(.+?)([+-]0x[0-9a-f]+)?$")
 SYMBOL = re.compile(r"^([0-9a-f]+) (.)(......) (\S+)\t([0-9a-f]+)\s+(?:\.hidden )?(.+)$")
 X86_STACK = 8
+# A loop that touches each page of a great frame: how great it is, and where the loop begins.
+PROBE = re.compile(
+    r"lea\w* -(0x[0-9a-f]+)\(%rsp\),%r11\nsub\w* \$0x[0-9a-f]+,%rsp\nmov\w* \$0x0,\(%rsp\)\ncmp[\w.]* %r11,%rsp\njne\w* ([0-9a-f]+)\b"
+)
 
 
 class Unknown(Exception):
@@ -42,7 +46,7 @@ class Instruction:
 
 @dataclass(frozen=True)
 class Depth:
-    """How far below its first place the stack pointer stands, in bytes, and the frame pointer, where it is one."""
+    """How far below its first place the stack pointer stands, in bytes, and the frame pointer, if it is one."""
 
     stack: int
     frame: int | None = None
@@ -240,6 +244,22 @@ class Code:
                 if last:
                     self.after[last] = place
                 last = place
+        for place in list(self.code):
+            self.read_probe(place)
+
+    def read_probe(self, start: Place) -> None:
+        """Takes a loop that moves the stack pointer page by page, and touches each page, for one move."""
+        places = [start]
+        while len(places) < 5 and places[-1] in self.after:
+            places.append(self.after[places[-1]])
+        if len(places) < 5:
+            return
+        first, move, *_, last = its = [self.code[it] for it in places]
+        found = PROBE.match("\n".join(f"{it.name} {it.operands}" for it in its))
+        if found and int(found[2], 16) == move.place[1]:
+            self.code[first.place] = Instruction(first.place, "nop", "")
+            self.code[move.place] = Instruction(move.place, "sub", f"${found[1]},%rsp")
+            self.code[last.place] = Instruction(last.place, "nop", "")
 
     @property
     def size(self) -> int:
@@ -256,7 +276,7 @@ class Code:
         return dict(sorted(found.items()))
 
     def target(self, it: Instruction) -> Place | None:
-        """Where a call or jump leads; None where it is a function of the program."""
+        """Where a call or jump leads; None if it is a function of the program."""
         if it.leads_to:
             symbol, more = it.leads_to
             if symbol in self.symbols:
@@ -311,12 +331,13 @@ class Code:
     def cases(self, function: Function, tables: dict[Place, Depth]) -> list[tuple[Place, Depth]]:
         """The next place after a jump by a table that no jump to a known place leads to: one by a table does. A table that stands in the
         code itself stands after its function."""
+        starts = {jump: max(it for it in self.symbols.values() if it[0] == jump[0] and it[1] <= jump[1]) for jump in tables}
         for jump, depth in tables.items():
             end = min((at for section, at in self.tables if section == jump[0] and at > jump[1]), default=None)
-            place: Place | None = max(it for it in self.symbols.values() if it[0] == jump[0] and it[1] <= jump[1])
+            place: Place | None = starts[jump]
             while place is not None and (end is None or place[1] < end):
                 if place not in function.seen and not self.is_filling(place):
-                    if len({it.stack for it in tables.values()}) > 1:
+                    if len({it.stack for other, it in tables.items() if starts[other] == starts[jump]}) > 1:
                         raise Unknown(f"{self.code[place]} is reached by one of several tables")
                     return [(place, depth)]
                 place = self.after.get(place)

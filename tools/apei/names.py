@@ -19,6 +19,10 @@ IOMMU = "036f84e1-7f37-428c-a79e-575fdfaa84ec"
 CCIX = "91335ef6-ebfb-4478-a6a6-88b728cf75d7"
 MACHINE_CHECK = "fe08ffbe-95e4-4be7-bc73-4096044a38fc"
 DMESG = "c197e04e-d545-4a70-9c17-a5549419eb12"
+CXL_PROTOCOL = "80b9efb4-52b5-4de3-a777-68784b771048"
+CXL_MEDIA = "fbcd0a77-c260-417f-85a9-088b1621eba6"
+CXL_DRAM = "601dcbb3-9c06-4eab-b8af-4e9bfb5c9624"
+CXL_MODULE = "fe927475-dd59-4339-a586-79bab113b774"
 # The types of the checks of an IA32 or x64 processor's section.
 CHECKS = [
     "a55701f5-e3ef-43de-ac72-249b573fad2c",

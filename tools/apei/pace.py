@@ -35,9 +35,9 @@ class Pace:
         return f"about {about}" + (", since other work takes a part of the processors" if self.times >= 1.5 else "")
 
     def left(self, part: float, passed: float) -> Optional[int]:
-        """The minutes that are left, where this part of the lines is proved and so many have passed.
+        """The minutes that are left, if this part of the lines is proved and N have passed.
 
-        As long as too little is proved, they are what is left of those that were told. Where all of these have passed, as many again."""
+        As long as too little is proved, they are what is left of those that were told. If all of these have passed, as many again."""
         if part >= 1:
             return None
         if part >= SAYS:

@@ -1,7 +1,7 @@
 """A clang whose code keeps nothing below the stack pointer: `plain_stack.py CLANG [WORD..]` in place of `CLANG [WORD..]`.
 
 On x86-64 a function may use the 128 bytes below the stack pointer, its red zone, without moving the pointer. Where an interrupt or a fault is
-handled on the same stack, as in kernels and firmware, it overwrites them. The word -mno-red-zone does nothing where clang is given a module of
+handled on the same stack, as in kernels and firmware, it overwrites them. The word -mno-red-zone does nothing if clang is given a module of
 LLVM, as the toolchain gives it. So the module is written as text first, with the attribute `noredzone` at each function. For other processors
 clang is called as it is.
 """

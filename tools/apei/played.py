@@ -16,7 +16,7 @@ from apei.flash import Geometry, torn
 from apei.harness import Ended, Program, image_file, scratch
 from streams import Failed, input_of
 
-# The status where strace is missing, or sees too little.
+# The status if strace is missing, or sees too little.
 NO_STRACE = 69
 PWRITE = re.compile(r'pwrite64\(\d+, "((?:\\x[0-9a-f]{2})*)"(\.\.\.)?, (\d+), (\d+)\) += (-?\d+)')
 
@@ -35,7 +35,7 @@ class Change:
         return image[: self.at] + self.data + image[self.at + len(self.data) :]
 
     def torn(self, image: bytes, tear: int) -> bytes:
-        """What is left where power is lost within the change, or it fails, by the number of --torn."""
+        """What is left if power is lost within the change, or it fails, by the number of --torn."""
         end = self.at + len(self.data)
         return image[: self.at] + torn(image[self.at : end], self.data, tear) + image[end:]
 
@@ -77,7 +77,7 @@ def options(parser: argparse.ArgumentParser) -> None:
 
 
 def built(name: str) -> Program:
-    """A program of this repository, which is built where it has to be."""
+    """A program of this repository, which is built if it has to be."""
     if subprocess.run([TOP / "tools" / "launch", "--build", name], check=False).returncode:
         raise SystemExit(70)
     return Program.of(name.replace("-", "_"))
@@ -114,7 +114,7 @@ def change_of(line: str) -> Change:
 
 
 def images(geometry: Geometry, made: list[Change]) -> list[bytes]:
-    """The image before each change, and the one behind the last."""
+    """The image before each change, and the one after the last."""
     image, out = geometry.erased, []
     for change in made:
         out.append(image)
@@ -123,7 +123,7 @@ def images(geometry: Geometry, made: list[Change]) -> list[bytes]:
 
 
 def steps_of(replies: str) -> list[tuple[str, int]]:
-    """Each reply with the number of changes behind its @."""
+    """Each reply with the number of changes after its @."""
     return [(words, int(step)) for words, _, step in (line.rpartition(" @") for line in replies.splitlines())]
 
 

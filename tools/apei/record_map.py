@@ -69,7 +69,7 @@ class RecordMap:
         return said
 
     def states(self, lines: Iterable[str]) -> list["RecordMap"]:
-        """What there is before the first of some lines, and behind each."""
+        """What there is before the first of some lines, and after each."""
         states = [self]
         for line in lines:
             states.append(states[-1].answer(line)[1])

@@ -86,7 +86,7 @@ class ShadowMachine:
             # LOAD_VAR1, ADD, and STORE_VAR1.
             self.spend(2)
             self.set(OFFSET, done + PIECE)
-            # SKIP_NEXT_INSTRUCTION_IF_TRUE, and GOTO where it didn't skip.
+            # SKIP_NEXT_INSTRUCTION_IF_TRUE, and GOTO if it didn't skip.
             self.spend(1 if done + PIECE == self.most else 2)
 
     def perform(self, code: int, given: int = 0) -> int:

@@ -36,14 +36,14 @@ class First:
     @property
     def slot(self) -> bytes:
         head = joined((self.gate, 1), (self.kill, 1), (self.form, 2), (self.generation, 4), (self.identifier, 8), (self.length, 4))
-        # The bytes behind the record's header are its own, so that it tells from which slots it was read.
+        # The bytes after the record's header are its own, so that it tells from which slots it was read.
         length, filling = max(self.length, 128), bytes([16 * self.generation % 256 + self.form])
         body = record(self.identifier, length)[:128].ljust(length, filling)
         return slot(head + joined(*((number, 2) for number in self.named)), body[:ROOM], self.tail)
 
 
 def first(identifier: int, generation: int, length: int, *named: int) -> bytes:
-    """The first slot of a record that names so many further slots."""
+    """The first slot of a record that names N further slots."""
     one, two, three = [*named, NO_SLOT, NO_SLOT, NO_SLOT][:3]
     return First(identifier, generation, length, (one, two, three)).slot
 
@@ -96,7 +96,7 @@ class Known:
 
 
 def of(*slots: bytes, records: dict[int, tuple[int, int]] | None = None, ended: int = 0) -> Known:
-    """These slots, and erased ones behind them."""
+    """These slots, and erased ones after them."""
     return Known([*slots, *[NOTHING] * (COUNT - len(slots))], records or {}, ended)
 
 

@@ -27,7 +27,7 @@ class Upright(NamedTuple):
 
 
 class Stored(NamedTuple):
-    """A record where it stands: its first slot, and the slots behind that."""
+    """A record where it stands: its first slot, and the slots after that."""
 
     slot: int
     generation: int
@@ -61,7 +61,7 @@ class Store:
         return b"".join(self.slots)
 
     def change(self, slot: int, at: int, data: bytes) -> None:
-        """One change of the flash, which fails where it is the fault's."""
+        """One change of the flash, which fails if it is the fault's."""
         fault = self.fault if self.fault and self.steps == self.fault.change else None
         self.steps += 1
         place = slice(at, at + len(data))
@@ -108,7 +108,7 @@ class Store:
         return found
 
     def settle(self) -> dict[int, Stored]:
-        """The records; where the flash failed before, second copies are ended first."""
+        """The records; if the flash failed before, second copies are ended first."""
         if self.in_doubt:
             firsts = {record.slot for record in self.records().values()}
             for slot in range(len(self.slots)):
@@ -217,7 +217,7 @@ class Recorder(Store):
         self.made.append((slot, at, bytes(data)))
 
     def images(self) -> list[bytes]:
-        """The image behind each change, where the flash was erased at the beginning."""
+        """The image after each change, if the flash was erased at the beginning."""
         flash, images = Store(self.geometry), []
         for change in self.made:
             flash.change(*change)
@@ -226,7 +226,7 @@ class Recorder(Store):
 
 
 def images_of(geometry: Geometry, lines: Iterable[str]) -> list[bytes]:
-    """The images behind each change that some lines make of an erased flash."""
+    """The images after each change that some lines make of an erased flash."""
     store = Recorder(geometry)
     for line in lines:
         store.play(line)
@@ -234,7 +234,7 @@ def images_of(geometry: Geometry, lines: Iterable[str]) -> list[bytes]:
 
 
 def cut_image(geometry: Geometry, lines: Iterable[str], change: int, tear: int) -> bytes:
-    """The image that is left where power is lost in a change that some lines make of an erased flash."""
+    """The image that is left if power is lost in a change that some lines make of an erased flash."""
     store = Store(geometry, Fault(change, tear))
     for line in lines:
         if not store.in_doubt:
@@ -243,7 +243,7 @@ def cut_image(geometry: Geometry, lines: Iterable[str], change: int, tear: int) 
 
 
 def booted(geometry: Geometry, image: bytes, fault: Fault | None = None) -> tuple[bytes, int]:
-    """The image that a boot leaves, whose power is lost too where that is said, and how many slots it kills."""
+    """The image that a boot leaves, whose power is lost too if that is said, and how many slots it kills."""
     store = Store(geometry, fault)
     store.put(image)
     try:

@@ -14,7 +14,7 @@ def seal(data: bytes | bytearray) -> bytes:
 
 
 def table(signature: bytes, body: bytes) -> bytes:
-    """A table with this body behind the header that all tables share."""
+    """A table with this body after the header that all tables share."""
     names = b"\1\0APEIPRAPEISIM " + spell(1, 4) + b"APEI" + spell(1, 4)
     return seal(signature + spell(36 + len(body), 4) + names + body)
 
@@ -37,5 +37,5 @@ def erst(entries: bytes, count: int | None = None, header_size: int = 48) -> byt
 
 
 def hest(sources: bytes, count: int) -> bytes:
-    """A HEST of so many error sources (ACPI 6.4, 18.3.2)."""
+    """A HEST of N error sources (ACPI 6.4, 18.3.2)."""
     return table(b"HEST", spell(count, 4) + sources)

@@ -45,7 +45,7 @@ class Builder:
 
 
 def noted() -> Optional[Builder]:
-    """Who builds, where that is known."""
+    """Who builds, if that is known."""
     try:
         found = Builder(**json.loads(NOTE.read_text()))
         os.kill(found.process, 0)
@@ -68,7 +68,7 @@ def take(lock: IO[str], say: Callable[[str], None]) -> None:
 
 
 def is_taken(lock: IO[str] | int) -> bool:
-    """Takes a lock where nobody has it."""
+    """Takes a lock if nobody has it."""
     try:
         fcntl.flock(lock, fcntl.LOCK_EX | fcntl.LOCK_NB)
     except BlockingIOError:

@@ -1,18 +1,27 @@
-# Completion of `apei-look` in bash: its options that aren't given yet, files, and the values of --sector. Source this file, or put it as
-# `apei-look` where bash-completion looks, as in ~/.local/share/bash-completion/completions.
+# Completion of `apei-look` in bash: its options that aren't given yet, and their values. Source this file, or put it as `apei-look` where bash-completion
+# looks, as in ~/.local/share/bash-completion/completions. tools/run option_texts writes it.
 
-_apei_look_files() {
-  compopt -o filenames 2>/dev/null
-  mapfile -t COMPREPLY < <(compgen -f -- "$1")
+# The options, by the job where the program has jobs; of any job while none is given.
+_apei_look_options() {
+  case $1 in
+    '') echo '--image= --sector= --per-slot= --slots= --guess --record= --json' ;;
+  esac
 }
 
 # The values of an option that begin with some text.
 _apei_look_values() {
-  local value
+  local values=() value
   case $1 in
-    --image) _apei_look_files "$2" ;;
-    --sector) for value in 256 512 1024 2048 4096 8192 16384 32768; do [[ $value != "$2"* ]] || COMPREPLY+=("$value"); done ;;
+    --image) _apei_look_paths -f "$2" ;;
+    --sector) values=(256 512 1024 2048 4096 8192 16384 32768) ;;
   esac
+  for value in "${values[@]}"; do [[ $value != "$2"* ]] || COMPREPLY+=("$value"); done
+}
+
+# Files (-f) or folders (-d) whose names begin with some text.
+_apei_look_paths() {
+  compopt -o filenames 2>/dev/null
+  mapfile -t COMPREPLY < <(compgen "$1" -- "$2")
 }
 
 _apei_look() {
@@ -23,29 +32,35 @@ _apei_look() {
     word=${COMP_WORDS[at]}
     if [[ ${#words[@]} -gt 0 && ( $word == = || ${words[-1]} == --*= ) ]]; then words[-1]+=$word; else words+=("$word"); fi
   done
-  local current=${words[-1]} option='' given=' '
+  local current=${words[-1]} option='' job='' given=' ' ended='' file=''
   unset 'words[-1]'
   for word in "${words[@]}"; do
-    case $word in
-      --json | --guess | --force) given+="$word " option='' ;;
-      --*=*) given+="${word%%=*} " option='' ;;
-      --*) given+="$word " option=$word ;;
-      *) [[ -n $option ]] || given+='--image '; option='' ;;
-    esac
+    if [[ $word == [\<\>]* ]]; then file=yes
+    elif [[ -n $file ]]; then file=''
+    elif [[ -n $option ]]; then option=''
+    elif [[ -n $ended || $word != -* ]]; then given+='--image '
+    elif [[ $word == -- ]]; then ended=yes
+    elif [[ $word == *=* || ' --guess --json ' == *" $word "* ]]; then given+="${word%%=*} "
+    else option=$word given+="$word "
+    fi
   done
-  if [[ -n $option ]]; then
+  # One of the two is taken.
+  case $given in *' --json '* | *' --record '*) given+='--json --record ' ;; esac
+  if [[ -n $file ]]; then
+    _apei_look_paths -f "$current"
+  elif [[ -n $option ]]; then
     _apei_look_values "$option" "$current"
-  elif [[ $current == --*=* ]]; then
+  elif [[ -z $ended && $current == --*=* ]]; then
     _apei_look_values "${current%%=*}" "${current#*=}"
     # Where bash has not cut the word, the option is a part of what is completed.
     [[ $COMP_WORDBREAKS == *=* ]] || COMPREPLY=("${COMPREPLY[@]/#/${current%%=*}=}")
-  elif [[ $current == -* ]]; then
+  elif [[ -z $ended && ( $current == -* || ( -n $job && -z $current ) ) ]]; then
     compopt -o nospace 2>/dev/null
-    for option in --image= --sector= --per-slot= --slots= --record= --json --guess; do
+    for option in $(_apei_look_options "$job"); do
       [[ $given == *" ${option%=} "* || $option != "$current"* ]] || COMPREPLY+=("$option")
     done
   else
-    _apei_look_files "$current"
+    _apei_look_paths -f "$current"
   fi
 }
 

@@ -1,14 +1,14 @@
-# Completion of `apei` in bash: jobs, the options of the job that aren't given yet, and the values of --image, --show, --torn and --sector.
-# Source this file, or put it as `apei` where bash-completion looks, as in ~/.local/share/bash-completion/completions.
+# Completion of `apei` in bash: its options that aren't given yet, and their values. Source this file, or put it as `apei` where bash-completion
+# looks, as in ~/.local/share/bash-completion/completions. tools/run option_texts writes it.
 
-# The options of a job, or where there is none yet, those of any job.
+# The options, by the job where the program has jobs; of any job while none is given.
 _apei_options() {
   case $1 in
-    play) echo --image --sector --per-slot --slots --steps ;;
-    sim) echo --sector --per-slot --slots --steps --cut --fail --fail-read --torn ;;
-    check) echo --show ;;
-    gen) echo --count --seed --sector --per-slot --slots --steps ;;
-    '') echo --image --sector --per-slot --slots --steps --cut --fail --fail-read --torn --count --seed --show ;;
+    play) echo '--image= --sector= --per-slot= --slots= --steps=' ;;
+    sim) echo '--sector= --per-slot= --slots= --steps= --cut= --fail= --fail-read= --torn=' ;;
+    check) echo '--show=' ;;
+    gen) echo '--sector= --per-slot= --slots= --steps= --count= --seed=' ;;
+    '') echo '--image= --sector= --per-slot= --slots= --steps= --cut= --fail= --fail-read= --torn= --count= --seed= --show=' ;;
   esac
 }
 
@@ -16,17 +16,18 @@ _apei_options() {
 _apei_values() {
   local values=() value
   case $1 in
-    --image) _apei_files "$2" ;;
-    --show) values=(HEAD PARTS HEAD,PARTS) ;;
-    --torn) values=(0 1 2 3) ;;
+    --image) _apei_paths -f "$2" ;;
     --sector) values=(256 512 1024 2048 4096 8192 16384 32768) ;;
+    --torn) values=(0 1 2 3) ;;
+    --show) values=(HEAD PARTS HEAD,PARTS) ;;
   esac
   for value in "${values[@]}"; do [[ $value != "$2"* ]] || COMPREPLY+=("$value"); done
 }
 
-_apei_files() {
+# Files (-f) or folders (-d) whose names begin with some text.
+_apei_paths() {
   compopt -o filenames 2>/dev/null
-  mapfile -t COMPREPLY < <(compgen -f -- "$1")
+  mapfile -t COMPREPLY < <(compgen "$1" -- "$2")
 }
 
 _apei() {
@@ -45,12 +46,12 @@ _apei() {
     elif [[ -n $option ]]; then option=''
     elif [[ -n $ended || $word != -* ]]; then job=$word
     elif [[ $word == -- ]]; then ended=yes
-    elif [[ $word == *=* ]]; then given+="${word%%=*} "
+    elif [[ $word == *=* || '  ' == *" $word "* ]]; then given+="${word%%=*} "
     else option=$word given+="$word "
     fi
   done
   if [[ -n $file ]]; then
-    _apei_files "$current"
+    _apei_paths -f "$current"
   elif [[ -n $option ]]; then
     _apei_values "$option" "$current"
   elif [[ -z $ended && $current == --*=* ]]; then
@@ -60,7 +61,7 @@ _apei() {
   elif [[ -z $ended && ( $current == -* || ( -n $job && -z $current ) ) ]]; then
     compopt -o nospace 2>/dev/null
     for option in $(_apei_options "$job"); do
-      [[ $given == *" $option "* || $option= != "$current"* ]] || COMPREPLY+=("$option=")
+      [[ $given == *" ${option%=} "* || $option != "$current"* ]] || COMPREPLY+=("$option")
     done
   elif [[ -z $job ]]; then
     mapfile -t COMPREPLY < <(compgen -W 'play sim check gen hub' -- "$current")

@@ -2,9 +2,9 @@
 
     tools/run browse [PROGRAM] [LOOK] [--picture FILE] [--narrow FILE]
 
-PROGRAM and LOOK are the built programs. The script is a replacement and a clear. Behind each change, and with power lost in each change
+PROGRAM and LOOK are the built programs. The script is a replacement and a clear. After each change, and with power lost in each change
 with each tear, the letters of the cells, the records and the sentence of the page are compared with what LOOK says of that image. On a screen
-400 pixels wide, with 32 slots, the records are where the slider is, and nothing goes past the screen's edge. With --picture the page behind
+400 pixels wide, with 32 slots, the records are where the slider is, and nothing goes past the screen's edge. With --picture the page after
 twelve changes is left as a PNG, and with --narrow the one on the narrow screen.
 """
 
@@ -123,7 +123,7 @@ def differs(browser: Browser, wanted: Json, at: int, tear: int, made: list[Chang
 
 
 def each_state(browser: Browser, look: Program, made: list[Change], picture: Path | None, tally: Tally) -> None:
-    """Behind each change, and with each tear of it."""
+    """After each change, and with each tear of it."""
     steps = images(FLASH, made)
     for tear in range(-1, 4):
         browser.evaluate(f"document.querySelector('input[name=tear][value=\"{tear}\"]').click()")

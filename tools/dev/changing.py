@@ -3,8 +3,8 @@
     tools/run changing [PAGE]
 
 Words between back quotes are read. One with a slash, a dot or a star is a path (a star stands for any part of a name): a file of that path
-is there, or one that ends so. Another is a name: it stands, as a word, in a file of its row where it is in a table, else somewhere in
-crates, tools, tests or docs. Those that are missing are written, one a line; the exit status is 1 where there is one.
+is there, or one that ends so. Another is a name: it stands, as a word, in a file of its row if it is in a table, else somewhere in
+crates, tools, tests or docs. Those that are missing are written, one a line; the exit status is 1 if there is one.
 """
 
 import re

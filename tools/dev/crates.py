@@ -3,7 +3,7 @@
     tools/run crates [--check]
 
 The shelves, their crates and what each stands on are those of crates.txt, a crate's words the first sentence of its own documentation.
-With --check nothing is written; the exit status is 1 where the page says something else.
+With --check nothing is written; the exit status is 1 if the page says something else.
 """
 
 from dataclasses import dataclass
@@ -14,11 +14,13 @@ from apei import TOP, crates
 PAGE = TOP / "docs" / "ARCHITECTURE.md"
 BEGIN, END = "<!-- begin: tools/dev/crates.py -->\n", "<!-- end: tools/dev/crates.py -->\n"
 WIDTH = 140
+# How many words say enough of a crate.
+ENOUGH = 5
 
 
 @dataclass
 class Shelf:
-    """A comment of crates.txt with the crates behind it."""
+    """A comment of crates.txt with the crates after it."""
 
     words: str
     crates: list[str]
@@ -40,11 +42,13 @@ def shelves() -> list[Shelf]:
 
 
 def sentence(crate: str) -> str:
-    """The first sentence of a crate's documentation."""
+    """The first sentence of a crate's documentation, up to its colon if it says enough before that."""
     source = TOP / "crates" / crate / "src"
     file = next(it for it in (source / "lib.rt", source / "main.rt") if it.exists())
     lines = [line.removeprefix("//!").strip() for line in file.read_text().splitlines() if line.startswith("//!")]
-    return " ".join(lines).split(". ")[0].rstrip(".").replace("|", "\\|")
+    first = " ".join(lines).split(". ")[0].rstrip(".").replace("|", "\\|")
+    front = first.partition(": ")[0]
+    return front if len(front.split()) >= ENOUGH else first
 
 
 def rows(below: dict[str, list[str]]) -> list[str]:

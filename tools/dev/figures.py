@@ -1,9 +1,9 @@
-"""Writes docs/FIGURES.md: what fits on a flash, what a write takes, and how the erases spread; and the picture of these.
+"""Writes into docs/EMBED.md, between two marks, what fits on a flash, what a write takes, and how the erases spread; and the picture of these.
 
     tools/run figures [--check] [--erases WRITES]
 
 The tables are worked out by the plain model of the store, which the gate compares with the program. With --check nothing is written, and
-the exit status is 1 where the page is another. With --erases the picture docs/pictures/erases.svg is made anew, of so many writes
+the exit status is 1 if the page has other figures. With --erases the picture docs/pictures/erases.svg is made anew, of N writes
 (100,000, which takes minutes).
 """
 
@@ -17,12 +17,13 @@ from apei.frames import record
 from apei.scripts import write
 from apei.store import LEAST, PIECE, Store
 
-PAGE, PICTURE = TOP / "docs/FIGURES.md", TOP / "docs/pictures/erases.svg"
+PAGE, PICTURE = TOP / "docs/EMBED.md", TOP / "docs/pictures/erases.svg"
+BEGIN, END = "<!-- begin: tools/dev/figures.py -->\n", "<!-- end: tools/dev/figures.py -->\n"
 GEOMETRIES = [
-    Geometry(256, 2, 1024), Geometry(512, 2, 512), Geometry(4096, 2, 32), Geometry(4096, 2, 128), Geometry(4096, 16, 32),
-    Geometry(32768, 2, 32), Geometry(32768, 2, 1024),
+    Geometry(256, 2, 1024), Geometry(4096, 2, 32), Geometry(4096, 2, 128), Geometry(4096, 16, 32), Geometry(32768, 2, 1024),
 ]
 LENGTHS = [128, 512, 2048, 8128, 16384, 65536]
+WRITTEN = [128, 2048, 16384]
 # Microseconds of an erase of 4,096 bytes and of a program of 256, of a common SPI flash; of a sector of another size in proportion.
 ERASE, PROGRAM, MARK = 45_000, 400, 30
 IDENTIFIERS, SLOTS = 20, 32
@@ -85,92 +86,53 @@ def named(geometry: Geometry) -> str:
 
 
 def fitting() -> Iterator[str]:
-    yield head("geometry", "flash", "longest record", *(f"records of {length:,}" for length in LENGTHS))
+    yield head("geometry", "flash", "longest record", *(f"of {length:,}" for length in LENGTHS), "the store's memory")
     for geometry in GEOMETRIES:
         store, size = Store(geometry), geometry.size
         flash = f"{size >> 20} MiB" if size >= 1 << 20 else f"{size >> 10} KiB"
-        yield row(named(geometry), flash, f"{store.reach:,}", *(fits(store, length) or "none" for length in LENGTHS))
+        taken = store.reach + LISTED * geometry.slots
+        yield row(named(geometry), flash, f"{store.reach:,}", *(fits(store, length) or "none" for length in LENGTHS), f"{taken:,}")
 
 
 def writing() -> Iterator[str]:
-    names = "sectors of a slot", "record", "parts", "erases", "programs", "changes of a new record", "of a replacement"
-    yield head(*names, "milliseconds by the times below")
-    for geometry in (Geometry(256, 2, 16), Geometry(4096, 2, 16), Geometry(4096, 4, 16), Geometry(32768, 2, 16)):
-        for length in LENGTHS:
+    yield head("sectors of a slot", "record", "parts", "erases", "programs", "milliseconds of a replacement")
+    for geometry in (Geometry(256, 2, 16), Geometry(4096, 2, 16)):
+        for length in WRITTEN:
             store = of_write(geometry, length, False)
             if length <= store.reach:
                 again = of_write(geometry, length, True)
                 slot = f"{geometry.per_slot} of {geometry.sector:,}"
-                counts = geometry.parts(length), sum(store.erases), len(store.programs), store.steps, again.steps
-                yield row(slot, f"{length:,}", *counts, f"{milliseconds(again):,.1f}")
+                yield row(slot, f"{length:,}", geometry.parts(length), sum(store.erases), len(store.programs), f"{milliseconds(again):,.1f}")
 
 
-def taking() -> Iterator[str]:
-    yield head("geometry", "buffer", "lists", "in all")
-    for geometry in GEOMETRIES:
-        reach, listed = Store(geometry).reach, LISTED * geometry.slots
-        yield row(named(geometry), f"{reach:,}", f"{listed:,}", f"{reach + listed:,} bytes")
-
-
-def page() -> str:
-    return f"""# Figures for the one who chooses
-
-Made by `tools/run figures` from the plain model with which the gate compares the program.
-
-## What fits
-
-A slot has room for its bytes less 64. A record takes as many slots as it needs parts of that room, at most four, and 65,536 bytes at most; the write of a
-new identifier wants one free slot more than the record has parts. So S slots hold (S - 1) / parts records of one length, and a flash has room for the
-replacement of each of them.
+def section() -> str:
+    return f"""How many records of one length fit, and the bytes of memory that the store takes when it is opened:
 
 {"".join(fitting())}
-## What a write takes
-
-A write fills the slots of its record one after another: each sector of the slot is erased, and then the head is programmed, the bytes in pieces of up to
-{PIECE}, and the tail mark. One more program opens the gate, which is the moment from which on the record counts, and a replacement ends the older one by
-one more. With p parts of r bytes, and s sectors a slot:
-
-    erases   = p * s
-    programs = p * 2 + (pieces of {PIECE} bytes of each part) + 1, and 1 more where an older record is replaced
-    time     = erases * (time of an erase) + programs * (time of a program)
-
-A clear is one program of one byte. A read and a count change nothing; a boot makes one program for each second copy that it finds, of which lost power
-leaves at most one.
+A slot has room for its bytes less 64. A record takes as many slots as it needs parts of that room, at most four. S slots hold (S - 1) / parts records of
+one length, since a write of a new identifier wants one free slot more than the record has parts. So each of them can be replaced.
 
 {"".join(writing())}
-The last column is of a replacement, by {ERASE // 1000} ms for the erase of 4,096 bytes (a sector of another size in proportion), {PROGRAM / 1000} ms for a program of
-{PIECE} bytes (a shorter one in proportion, down to a fourth) and {MARK / 1000} ms for a mark of one byte: put your own flash's times in.
-An erase is nearly all of it, so a slot of few, small sectors writes fast, and one of large sectors holds long records in few parts.
+A write erases each sector of its slots, and programs for each part the head, the bytes in pieces of up to {PIECE}, and the tail mark. One more program
+opens the gate, and a replacement ends the older record by one more:
 
-## How the erases spread
+    erases   = parts * sectors of a slot
+    programs = parts * 2 + (pieces of {PIECE} bytes of each part) + 1, and 1 more if an older record is replaced
 
-The store takes the free slots of least number, and does not level wear. Over 100,000 writes that replace {IDENTIFIERS} records of one slot at random, on
-{SLOTS} slots of two sectors, each replacement takes the free slot of least number and frees another: so {IDENTIFIERS + 1} slots are used, evenly, and the others never.
+The times are by {ERASE // 1000} ms for the erase of 4,096 bytes (a sector of another size in proportion), {PROGRAM / 1000} ms for a program of {PIECE} bytes
+(a shorter one in proportion, down to a fourth) and {MARK / 1000} ms for a mark of one byte. Put your own flash's times in. A clear is one program of
+one byte. A read and a count change nothing. A boot makes one program for each second copy, of which lost power leaves at most one.
 
 ![erases of each sector over 100,000 writes](pictures/erases.svg)
 
-W writes of K records of one slot erase each sector of K + 1 slots about W / (K + 1) times, here 4,700 to 4,931. So more slots than the records need make a
-flash last no longer, and more identifiers do. A driver that levels wear stands below the trait `Flash`, and moves sectors as it likes
-([USE-THE-STORE.md](USE-THE-STORE.md)).
-
-## Memory
-
-The store takes its memory when it is opened, and none afterwards: a buffer as long as the longest record, and for each slot its place in four lists, of the
-identifiers (8 bytes), of where their records are (20), of the free slots (4), and of the heads that were read (40). In all, about:
-
-{"".join(taking())}
-The machine of `play` and `sim` takes the flash's image beside that, the log range of the longest record, and the areas that
-[SCRIPT.md](SCRIPT.md#the-machines-memory) lists; `/usr/bin/time -v` shows what a run takes.
-
-## Code size
-
-It goes by the machine and the compiler. As LLVM builds them for x86-64, `size` shows of code and constants: the store in a whole program of its own,
-`crates/driver_example`, 34 kB; the program `apei` 637 kB. The library's archives stand in [EMBED.md](EMBED.md#which-archive).
+The store takes the free slots of least number, and does not level wear. W writes of K records of one slot erase each sector of K + 1 slots about
+W / (K + 1) times, and the others never: here of {IDENTIFIERS} records on {SLOTS} slots 4,700 to 4,931 times. So more slots than the records need do not make
+a flash last longer.
 """
 
 
 def erases(writes: int) -> list[int]:
-    """The erases of each sector over so many writes of records of 128 to 448 bytes under a few identifiers."""
+    """The erases of each sector over N writes of records of 128 to 448 bytes under a few identifiers."""
     chance = random.Random(1)
     store = Counted(Geometry(256, 2, SLOTS))
     records = [record(it, length).hex() for it in range(1, IDENTIFIERS + 1) for length in (LEAST, 300, store.room)]
@@ -206,7 +168,9 @@ def main(words: list[str]) -> int:
     if given.erases:
         PICTURE.parent.mkdir(exist_ok=True)
         PICTURE.write_text(picture(erases(given.erases), given.erases))
+    before, _, rest = PAGE.read_text().partition(BEGIN)
+    said, _, after = rest.partition(END)
     if given.check:
-        return 0 if PAGE.read_text() == page() else 1
-    PAGE.write_text(page())
+        return 0 if said == section() else 1
+    PAGE.write_text(before + BEGIN + section() + END + after)
     return 0

@@ -2,7 +2,7 @@
 
     tools/run kills [PROGRAM] [RUNS] [SEED]
 
-PROGRAM is the built program, by default crates/apei/out/apei. RUNS, 200 where it is not said, are killed, and each goes on with the file
+PROGRAM is the built program, by default crates/apei/out/apei. RUNS, 200 if it is not said, are killed, and each goes on with the file
 that the one before it left: it plays commands at random over several slots until a moment within the time that a whole run takes. Then the
 file is opened: its records are those after the commands whose replies came, or after one command more. What a kill leaves is in the
 kernel's hands, so this shows what a program that dies loses, and not what a machine without power does: the tool `file_faults` has the

@@ -9,8 +9,8 @@ the second form the runs of `sim` by FIRST to LAST are made by `rt try --fail-al
 for each N. A run in which a request was refused ends
 
 - with status 8, 'out of memory', before the first reply, or at a line that makes a table, whose reply is the first that is missing;
-- or, where the file of `play` was opened, with status 5 before the first reply;
-- or, at one request, as where none is refused: for the words of the command line std asks for room in advance, and does without it;
+- or, if the file of `play` was opened, with status 5 before the first reply;
+- or, at one request, as if none is refused: for the words of the command line std asks for room in advance, and does without it;
 - or so at one more of `sim` and `gen`, whose flash does without the list of what it knows of its sectors.
 
 How the runs ended comes before the last line.
@@ -70,13 +70,13 @@ def example(name: str) -> list[str]:
     return (TOP / "examples" / name).read_bytes().decode("latin-1").splitlines()
 
 
-TABLE = next(line for line in example("looping-table.script") if line.startswith("table 45"))
+TABLE = next(line for line in example("looping-table/script") if line.startswith("table 45"))
 SCRIPT = [
     "# Every kind of line.", "", write(1, 900), "read 1", "count", "next", "dummy", "action 14 0", write(2, 128), write(1, 500), "clear 2",
     TABLE, "action 0 0", "table own", "error " + BLOCK, "turns FFFFRRRRRFF", "peek 1048576 64", "fatal " + BLOCK, "bert", "heard", "reset",
     "read 1", "table shadow", write(3, 300), "read 3", "power", "read 1", "bridge 500", "error " + BLOCK, "turns FFFFRRRRRRRRRR", "count",
 ]
-ITEMS = [line for name in ("check.script", "check-parts.script") for line in example(name)]
+ITEMS = [line for name in ("check/script", "check-parts/script") for line in example(name)]
 IN_ADVANCE = "as where none is refused"
 # How many requests a job does without.
 WITHOUT = {"sim": 2, "gen": 2, "play": 1, "check": 1}
@@ -98,12 +98,12 @@ def takes_table(line: str) -> bool:
 
 
 class Job:
-    """A job with its words and input, and what it says where all is well."""
+    """A job with its words and input, and what it says if all is well."""
 
     def __init__(self, words: list[str], lines: list[str], run: Run) -> None:
         self.name, self.words, self.lines = words[0], words, lines
         self.whole = run(words, lines)
-        # How many replies have come behind each line.
+        # How many replies have come after each line.
         self.told = [len(run(words, lines[:ended]).replies) for ended in range(len(lines) + 1)]
 
     def next_line(self, replies: list[str]) -> str:
@@ -111,7 +111,7 @@ class Job:
         return next((line for line, told in zip(self.lines, self.told[1:]) if told > len(replies)), "")
 
     def end_of(self, found: Found) -> str | None:
-        """How a run in which a request was refused ends, or None where it ends in none of the ways that it may."""
+        """How a run in which a request was refused ends, or None if it ends in none of the ways that it may."""
         status, replies, said = found
         if (status, said) == (8, "apei: out of memory\n") and replies == self.whole.replies[: len(replies)]:
             if not replies:
@@ -163,7 +163,7 @@ class Ends(Tally):
         self.ends: collections.Counter[tuple[str, str]] = collections.Counter()
 
     def take(self, job: Job, at: int, found: Found, may_do_without: bool) -> None:
-        """A run whose so many-th request was refused."""
+        """A run whose N-th request was refused."""
         end = job.end_of(found)
         if found == job.whole and (may_do_without or self.ends[job.name, IN_ADVANCE] < WITHOUT[job.name]):
             end = IN_ADVANCE
@@ -179,7 +179,7 @@ class Ends(Tally):
 
 
 def whole_run(by: Preloaded, job: Job) -> int:
-    """How many requests a run makes where none is refused."""
+    """How many requests a run makes if none is refused."""
     asked, whole = by.refusing(job.words, job.lines, 0)
     if whole.status or asked < 3:
         raise SystemExit(f"{job.name}: {asked} requests, status {whole.status}, {whole.said}")

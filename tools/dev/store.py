@@ -3,7 +3,7 @@
     tools/run store [PROGRAM] [SCRIPTS] [SEED]
 
 PROGRAM is the built program, by default crates/apei/out/apei. A script runs on a few small slots, so that it fills them, and mostly with
-one change of the flash that fails and leaves one of the four tears. SCRIPTS of them are played, 1,000 where it is not said.
+one change of the flash that fails and leaves one of the four tears. SCRIPTS of them are played, 1,000 if it is not said.
 """
 
 import random

@@ -8,9 +8,9 @@ The words of a kind are --compiler=llvm or rattle, --target=x86-64 or aarch64, -
 `rt ci` proves the crate apei_c and makes no archive of it, and `rt lib`, after it, proves all crates below once more. So the toolchain's
 own command is called: it proves apei_c once for each processor over the libraries that are there, and compiles what it proved.
 
-Where a crate has the library of an earlier check, `rt ci` has put it back in the place of its own, and nothing says of which sources it
-is. Then, and where there is none, a line says so, and the exit status is 77. It is 70 where something was not proved or not built, and 2
-where a kind can't be built.
+If a crate has the library of an earlier check, `rt ci` has put it back in the place of its own, and nothing says of which sources it
+is. Then, and if there is none, a line says so, and the exit status is 77. It is 70 if something was not proved or not built, and 2
+if a kind can't be built.
 """
 
 import os

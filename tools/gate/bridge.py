@@ -4,7 +4,7 @@
     tools/run bridge --say SCRIPT [OPTION..]
 
 PROGRAM is the built program, by default crates/apei/out/apei. A script that stores blocks of one piece and of several loses power in each
-of its flash changes, and has each of them fail, with each tear; and SCRIPTS scripts, 300 where it is not said, are drawn at random. No
+of its flash changes, and has each of them fail, with each tear; and SCRIPTS scripts, 300 if it is not said, are drawn at random. No
 block is acknowledged before its record was answered as stored, and each record that was so answered is there after a loss of power, unless
 a line wrote or cleared its identifier. In the second form the model's replies to a script are written, and nothing is run.
 """

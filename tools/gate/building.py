@@ -65,7 +65,6 @@ class Builds(Tally):
         super().__init__("builds")
         self.folder = folder
         (folder / ".git").mkdir()
-        shutil.copy2(TOP / "HANDLES", folder)
         (folder / "crates.txt").write_text(CRATES)
         (folder / "tools").mkdir()
         for name in ("build", "build.py", "first", "python", "start.py", "streams.py"):

@@ -2,7 +2,7 @@
 
     tools/run causes
 
-A script's status is the one that is documented, and where it is not 0 it says why in lines of its own, none of which is Python's. The programs
+A script's status is the one that is documented, and if it is not 0 it says why in lines of its own, none of which is Python's. The programs
 run from where ./install puts them, and the tools from a copy of their folder. As root the files that may not be read are tried as another user.
 """
 
@@ -64,7 +64,17 @@ KNOWN = [
     Meets("apei-look FILE", b"", WRITES, (5, 5, 5)),
     Meets("apei-look --help", b"", WRITES),
     Meets("apei-show FILE", b"", WRITES, (5, 5, 5)),
+    Meets("apei-show packed", b"", WRITES),
+    Meets("apei-show --json packed FILE", b"", WRITES, (5, 5, 5)),
+    Meets("apei-show --pci-ids=FILE record", b"", WRITES, (5, 5, 5)),
     Meets("apei-show -", b"", (5, 4, 0, 5, 5, 4, 0)),
+    Meets("apei-show - packed", b"", (5, 4, 0, 4, 5, 4, 0)),
+    Meets("apei-show --here", b"", WRITES),
+    Meets("apei-show --here --json --keep=FILE", b"", (), (0, 0, 5)),
+    Meets("apei-show --here --keep=kept", b"", WRITES),
+    Meets("apei-show --here --keep=watched --since-last", b"", (10, 0, 0, 0, 0, 0, 0)),
+    Meets("apei-show --here --keep=record/x", b"", (5, 4, 5, 4, 5, 4, 5)),
+    Meets("apei-show --here --since-last", b"", ONE),
     Meets("apei-show --help", b"", WRITES),
     Meets("sweep FILE", b"", WRITES, (3, 3, 3)),
     Meets("sweep -", COUNT, READS),
@@ -116,6 +126,10 @@ class Causes(Tally):
         (self.work / "folder").mkdir()
         (self.work / "script").write_bytes(script([write(1, 128)]))
         (self.work / "record").write_bytes(bytes.fromhex(write(1, 128).split()[1]))
+        (self.work / "packed").write_bytes((TOP / "tests/records/packed-kernel-log.bin").read_bytes())
+        log = self.work / "machine/sys/fs/pstore/dmesg-erst-1"
+        log.parent.mkdir(parents=True)
+        log.write_bytes(b"Panic#1 Part1\n")
         for name in ("locked", "flash"):
             (self.work / name).write_bytes(b"")
         (self.work / "flash").unlink()
@@ -136,13 +150,13 @@ class Causes(Tally):
         return [place / name, *played, *rest]
 
     def run(self, words: list[str], given: bytes = b"", before: Sequence[str] = (), **settings: Any) -> subprocess.CompletedProcess[bytes]:
-        """A run, by the words of another command before it where there are some."""
+        """A run, by the words of another command before it if there are some."""
         (self.work / "new").unlink(missing_ok=True)
         streams: dict[str, Any] = {"input": given, "stdout": subprocess.PIPE, "stderr": subprocess.PIPE, "timeout": 60, **settings}
         if "stdin" in streams:
             del streams["input"]
-        # The toolchain is not found there.
-        path = {**os.environ, "PATH": "/usr/bin:/bin"}
+        # The toolchain is not found there, and what this machine has is in a folder.
+        path = {**os.environ, "PATH": "/usr/bin:/bin", "APEI_ROOT": str(self.work / "machine")}
         return subprocess.run([*before, *self.command(words)], cwd=self.work, check=False, env=path, **streams)
 
     def expect_end(self, words: list[str], cause: str, status: int, done: subprocess.CompletedProcess[bytes], heard: bool = True) -> None:
@@ -193,6 +207,8 @@ def files(causes: Causes) -> None:
             causes.expect_end(words, f"{name} for a file", status, done)
             if it.words.startswith("apei play"):
                 (causes.work / "none").unlink(missing_ok=True)
+            if it.words.endswith("--keep=FILE"):
+                shutil.rmtree(causes.work / "none", ignore_errors=True)
 
 
 # A disk of sixteen pages that is full after as many, seen by one run alone.

@@ -4,7 +4,7 @@
     tools/run check --lines FLAGS < SCRIPT
 
 PROGRAM is the built program, by default crates/apei/out/apei. ITEMS (by default 3200) items are made and checked with each choice of
---show, and so is each beginning of a whole one of each kind. An item is wrong where a line on it differs by some choice. In the second
+--show, and so is each beginning of a whole one of each kind. An item is wrong if a line on it differs by some choice. In the second
 form it only writes the lines that a script of good lines wants.
 """
 
@@ -84,7 +84,7 @@ MAKERS: dict[str, Callable[[random.Random], bytes]] = {
 
 
 def changed(chance: random.Random, word: str, item: bytes) -> bytes:
-    """An item of which a byte is another, which is cut, or behind which more stands; or as it was."""
+    """An item of which a byte is another, which is cut, or after which more stands; or as it was."""
     data, change = bytearray(item), chance.randrange(8)
     if change < 4:
         at = chance.randrange(len(data) if change == 0 else min(len(data), 64))
@@ -115,7 +115,7 @@ def beginnings(chance: random.Random) -> Iterator[str]:
 
 
 def differing(lines: list[str], flags: str, found: list[str]) -> Iterator[int]:
-    """The items whose lines are not those that were found, by their numbers; the last one's also where more lines were found."""
+    """The items whose lines are not those that were found, by their numbers; the last one's also if more lines were found."""
     at = 0
     for item, line in enumerate(lines):
         wanted = shown(line, flags)

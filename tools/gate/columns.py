@@ -4,7 +4,7 @@
 
 PROGRAM is the built program, by default crates/apei/out/apei. A row of tests/columns/script or check is a column, or 00 for a line, a
 blank and a text, in which \\r, \\t and \\xff stand for bytes. Each text is given to `sim` or `check` as its one line, and so are TEXTS
-more, 300 where it is not said, that are cut from lines and changed at random. Their columns are those of the grammar, by the definition
+more, 300 if it is not said, that are cut from lines and changed at random. Their columns are those of the grammar, by the definition
 of docs/SCRIPT.md: one more than the length of the longest beginning with which some line begins.
 """
 
@@ -25,7 +25,7 @@ WHOLE = {
 
 
 class Case(NamedTuple):
-    """A text, and the column that a job has to say of it; 0 where it is a line."""
+    """A text, and the column that a job has to say of it; 0 if it is a line."""
 
     job: str
     column: int

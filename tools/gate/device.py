@@ -4,7 +4,7 @@
 
 PROGRAM is the built program, by default crates/apei/out/apei. A table is used whose program of each action writes the register VALUE,
 writes the action's number to the register ACTION, and reads VALUE: so an `action` line is one access of the device. After each of some
-beginnings each code is tried and then the same ones again, and SCRIPTS more are drawn at random, 150 where it is not said.
+beginnings each code is tried and then the same ones again, and SCRIPTS more are drawn at random, 150 if it is not said.
 """
 
 import random
@@ -26,7 +26,7 @@ from apei.store import Store
 FLASH = Geometry(256, 2, 4)
 ACTION, VALUE = 0x200000, 0x200008
 READ_REGISTER, WRITE_REGISTER, WRITE_REGISTER_VALUE = 0x00, 0x02, 0x03
-# The codes of actions, one that has none, one behind the last, and the greatest.
+# The codes of actions, one that has none, one after the last, and the greatest.
 CODES = [*range(0x12), 0xFF]
 PEEK = "peek 1048576 1792"
 REFUSALS = ["", "refused no-space", "refused hardware", "refused failed"]

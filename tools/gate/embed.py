@@ -8,8 +8,8 @@ in the range of that change: nothing, all of it, zeros, and 0xA5 in each byte. E
 was cut is refused, or is empty; any other has the records from before the command that was cut or those after it, and each record that was
 told as stored. All archives leave the same medium. The names that an archive wants of its program are those that docs/EMBED.md lists.
 A linker drops the calls that a program does not use, unless all code is one section.
-Programs of tests/embed count what an archive takes of memory and gives back, and try the arena of glue/. Then the Rust crate's tests and its
-example run, where cargo is there.
+Programs of tests/embed count what an archive takes of memory and gives back, try the arena of glue/, run error sources against guests, and
+lay blocks into boot error regions. The example client writes, lists, reads and clears records of a device. Then the Rust crate's tests and its examples run, where cargo is there.
 
 The machine code of each archive is read, and first that of tests/embed/footprint.c, of which is known what is found: no archive reaches memory below the stack pointer, those named general.a use no vector registers,
 and what docs/EMBED.md says of sizes, registers and stack is what is counted. With --write it is written there, and nothing is run.
@@ -27,12 +27,14 @@ from dataclasses import dataclass
 from pathlib import Path
 from typing import Any
 
-from apei import TOP
+from apei import TOP, made
 from apei.footprint import Footprint, differences, write
 from apei.harness import Tally, scratch, side_by_side
 from apei.machine_code import Code
 
 TEARS = ("nothing", "whole", "zeros", "marks")
+# What the names of the archive's calls begin with that a program without a device, sources, a region and a client does not use.
+CALLS = "apei_c_erst", "apei_c_ghes", "apei_c_boot", "apei_c_client", "apei_c_make"
 WANTED = {"memcpy", "memmove", "memset", "memcmp", "rattle_alloc", "rattle_realloc", "rattle_dealloc"}
 # The archives whose code is one section.
 ONE_SECTION = {"rattle"}
@@ -41,6 +43,14 @@ WARNINGS = ("-std=c11", "-O2", "-Wall", "-Wextra", "-Wpedantic", "-Werror")
 CUT = 9
 # The command status of a command of which the flash failed a change.
 FAILED = "3"
+
+# How the Rust crate is tried, and what an example writes twice.
+TRIALS = (
+    (("test",), ""),
+    (("test", "--no-default-features"), ""),
+    (("run", "--example", "vmm"), "as written: true"),
+    (("run", "--example", "sources"), "as submitted: true"),
+)
 
 Records = dict[str, str]
 
@@ -102,26 +112,39 @@ def built(system: System, archive: Path, folder: Path) -> Path:
     return system.linked(library, folder / "firmware", TOP / "examples" / "embed" / "firmware.c")
 
 
-# The programs that try the memory of an archive, with the files of each.
-MEMORY = {
+# What error sources are tried by, and where their memory is the C library's.
+GUESTS, MALLOC = "tests/embed/guests.c", "glue/heap_malloc.c"
+# The programs that try an archive, with the files of each.
+PROGRAMS = {
     "memory": ("tests/embed/heap.c", "tests/embed/memory.c", "tests/embed/opening.c"),
     "arena": ("glue/heap_arena.c", "tests/embed/arena.c", "tests/embed/opening.c"),
+    "source_memory": ("tests/embed/heap.c", GUESTS, "tests/embed/source_memory.c"),
+    "sources": (MALLOC, GUESTS, "tests/embed/sources.c"),
+    "boot": (MALLOC, GUESTS, "tests/embed/boot.c"),
+    "makers": (MALLOC, "tests/embed/makers.c"),
+    "client": (MALLOC, "examples/embed/client.c"),
 }
 
 
-def tries_memory(system: System, archive: Path, folder: Path, name: str) -> str | None:
-    """What is wrong with the memory that an archive takes and gives back; None where nothing is."""
-    done = system.run(system.linked(archive, folder / name, *(TOP / it for it in MEMORY[name])))
+def tries(system: System, archive: Path, folder: Path, name: str) -> str | None:
+    """What a program finds wrong with an archive; None where nothing is."""
+    done = system.run(system.linked(archive, folder / name, *(TOP / it for it in PROGRAMS[name])))
     return f"{archive}: {name}: {done.stderr}" if done.returncode else None
 
 
+def is_made_otherwise(system: System, folder: Path) -> str | None:
+    """What a made block and a made record have elsewhere than Linux has it; None where nothing."""
+    done = system.run(folder / "makers", "show")
+    return done.stderr if done.returncode else made.wrong(done.stdout)
+
+
 def drops_calls(system: System, folder: Path) -> bool:
-    """Whether a program that checks a table, and has no device, is linked without the calls on a device."""
+    """Whether a program that checks a table is linked without the calls on devices, error sources and regions."""
     program = folder / "check"
     words: list[str | Path] = ["-Wl,--gc-sections", TOP / "tests" / "embed" / "check.c", folder / "libapei.a"]
     make(system.cc, *WARNINGS, f"-I{TOP / 'include'}", *words, "-o", program)
     names = call(f"{system.prefix}nm", program).stdout
-    return system.run(program).returncode == 0 and "apei_c_check" in names and "apei_c_erst" not in names
+    return system.run(program).returncode == 0 and "apei_c_check" in names and not any(it in names for it in CALLS)
 
 
 def unknown_names(system: System, archive: Path) -> set[str]:
@@ -260,9 +283,9 @@ def rust(system: System, library: Path, tally: Tally) -> None:
         upper = system.triple.upper().replace("-", "_")
         environment |= {f"CARGO_TARGET_{upper}_LINKER": system.cc, f"CARGO_TARGET_{upper}_RUNNER": " ".join(system.runner)}
         target = ["--target", system.triple]
-    for words in (("test",), ("test", "--no-default-features"), ("run", "--example", "vmm")):
+    for words, shown in TRIALS:
         done = call("cargo", *words, "--offline", "--quiet", *target, cwd=TOP / "rust" / "apei", env=environment)
-        is_right = done.returncode == 0 and (words[0] == "test" or done.stdout.count("as written: true") == 2)
+        is_right = done.returncode == 0 and (not shown or done.stdout.count(shown) == 2)
         tally.expect(is_right, f"cargo {' '.join([*words, *target])}: {done.stdout}{done.stderr}")
 
 
@@ -291,9 +314,11 @@ def try_archives(archives: list[Path], tally: Tally) -> None:
             tally.expect(not unknown, f"{archive} wants {unknown}")
             is_one = archive.stem in ONE_SECTION
             tally.expect(is_one or drops_calls(system, folder), f"{archive}: calls that are not used are not dropped")
-            for name in MEMORY:
-                wrong = tries_memory(system, archive, folder, name)
+            for name in PROGRAMS:
+                wrong = tries(system, archive, folder, name)
                 tally.expect(wrong is None, wrong or "")
+            wrong = is_made_otherwise(system, folder)
+            tally.expect(wrong is None, f"{archive}: {wrong}")
         for firmware in firmwares:
             tally.expect(firmware.left == firmwares[0].left, "two archives leave two mediums")
             tally.expect(len(firmware.lines) == 6, f"the run is not whole: {firmware.lines}")

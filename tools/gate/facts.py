@@ -3,7 +3,7 @@
     tools/run facts
 
 tests/facts/facts.txt keeps what they say: tests/facts/extract.py reads it out of their sources. Each GUID of a source file has to be one of theirs, and
-to have their name for it; a few that none of them has are listed here, and in docs/PROOFS.md too. Where the foreign sources were fetched
+to have their name for it; a few that none of them has are listed here, and in tests/facts/README.md too. Where the foreign sources were fetched
 (tests/facts/fetch), they are read once more, and have to say what is kept. Then one byte is exchanged for another in a GUID of each form, which has to be
 found.
 """
@@ -55,6 +55,14 @@ NAMES = {
     "pci/pci-x bus": "CPER_SEC_PCI_X_BUS",
     "pci bus": "CPER_SEC_PCI_X_BUS",
     "pci component": "CPER_SEC_PCI_DEV",
+    "cxl protocol error": "CPER_SEC_CXL_PROT_ERR",
+    "cxl protocol": "CPER_SEC_CXL_PROT_ERR",
+    "cxl general media event": "CPER_SEC_CXL_GEN_MEDIA_GUID",
+    "cxl media": "CPER_SEC_CXL_GEN_MEDIA_GUID",
+    "cxl dram event": "CPER_SEC_CXL_DRAM_GUID",
+    "cxl dram": "CPER_SEC_CXL_DRAM_GUID",
+    "cxl memory module event": "CPER_SEC_CXL_MEM_MODULE_GUID",
+    "cxl module": "CPER_SEC_CXL_MEM_MODULE_GUID",
     "dmar generic": "CPER_SEC_DMAR_GENERIC",
     "dma remapping": "CPER_SEC_DMAR_GENERIC",
     "dmar": "CPER_SEC_DMAR_GENERIC",
@@ -76,7 +84,7 @@ NAMES = {
     "packed log": "CPER_SECTION_TYPE_DMESG_Z",
     "linux kernel log, packed": "CPER_SECTION_TYPE_DMESG_Z",
 }
-# GUIDs that none of the foreign sources has, by the clause that does. docs/PROOFS.md lists the same.
+# GUIDs that none of the foreign sources has, by the clause that does. tests/facts/README.md lists the same.
 ALONE = {
     "e429faf1-3cb7-11d4-bca7-0080c73c8881": "UEFI 2.8, N.2.2",
     "91335ef6-ebfb-4478-a6a6-88b728cf75d7": "UEFI 2.8, N.2.12",
@@ -185,11 +193,12 @@ def look_at_rows(tally: Tally) -> None:
 
 
 def look_at_list(tally: Tally) -> None:
-    """The list of docs/PROOFS.md is the tool's."""
-    section = (TOP / "docs" / "PROOFS.md").read_text(encoding="utf-8").split("## What is compared with a foreign source", 1)[-1].split("\n## ", 1)[0]
-    listed = {(found[1], found[2]) for found in re.finditer(r"^- `([^`]+)` \(([^)]*)\)", section, re.M)}
+    """The list of tests/facts/README.md is the tool's."""
+    section = re.sub(r"\n +", " ", (TOP / "tests" / "facts" / "README.md").read_text(encoding="utf-8"))
+    items = re.finditer(r"^- (`[^`]+`(?:, `[^`]+`)*) \(([^)]*)\)", section, re.M)
+    listed = {(name, item[2]) for item in items for name in re.findall("`([^`]+)`", item[1])}
     for name, clause in listed ^ {*ALONE.items(), *foreign.alone().items()}:
-        tally.add([f"docs/PROOFS.md and tools/gate/facts.py do not both list {name} ({clause}) as compared with nothing foreign"])
+        tally.add([f"tests/facts/README.md and tools/gate/facts.py do not both list {name} ({clause}) as compared with nothing foreign"])
 
 
 def main(words: list[str]) -> int:

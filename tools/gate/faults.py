@@ -102,7 +102,7 @@ def several_slots(faults: Faults) -> None:
 
 
 def given_again(faults: Faults) -> None:
-    """A write of 6 changes, a replacement of 7 and a clear of 1. Power comes back right behind the command that lost it: the record is then
+    """A write of 6 changes, a replacement of 7 and a clear of 1. Power comes back right after the command that lost it: the record is then
     the one from before it or the one after it, and the command can be given again."""
     states = RecordMap.empty(FLASH).states(AGAIN)
     wanted = states[0].replies(AGAIN)

@@ -4,11 +4,11 @@
 
 PROGRAM is the built program, by default crates/apei/out/apei. `play` writes, replaces and clears records over several slots; the write or
 sync of each of its flash changes fails with EIO, and with ENOSPC. Afterwards the file is opened again: the records are those that the
-replies acknowledged, a command that was refused as `hardware` being in or out. So it is where the first write of that opening fails as
-well. Right behind such a fault the run reads the range of its change back, writes these bytes once more and syncs them. A file that is
+replies acknowledged, a command that was refused as `hardware` being in or out. So it is if the first write of that opening fails as
+well. Right after such a fault the run reads the range of its change back, writes these bytes once more and syncs them. A file that is
 made is synced, and then its folder; it meets the same faults, and those of its two names; then it is there, whole and erased, or it is
 not, and the next run makes it. A file in a folder that is missing is refused. `sim` ends at the read and at the write that fails, with the
-replies before it. Where there is no strace, or none that may trace, that is said, and the exit status is 0.
+replies before it. If there is no strace, or none that may trace, that is said, and the exit status is 0.
 """
 
 import os
@@ -33,7 +33,7 @@ LINES = [
     write(1, 900), "count", write(2, 128), write(1, 500), "read 1", write(3, 449), write(2, 1345), "read 2", "clear 1", "count",
     write(1, 128), write(3, 128), "clear 3", "read 3", "count",
 ]
-# Lines that need no record, with their replies; comments behind them take the last line past what one read takes.
+# Lines that need no record, with their replies; comments after them take the last line past what one read takes.
 PLAIN = [
     ("count", "count 0"), ("next", "next end"), ("# nothing", ""), ("dummy", "dummy ok"), ("read 7", "refused empty"),
     ("action 14 0", "result 32512"), ("turns FR", "turns idle nothing"), ("bert", "bert 0"), ("heard", "heard 0 0 0"), ("reset", "reset 0"),
@@ -43,7 +43,7 @@ CALL = re.compile(r"\d+ +(\w+)\(\d+<([^>]*)>(?:, \"([^\"]*)\", \d+, (\d+))?\) +=
 
 
 class Fault(NamedTuple):
-    """A call of the kernel that fails with an error: the so many-th of its name."""
+    """A call of the kernel that fails with an error: the N-th of its name."""
 
     call: str
     error: str
@@ -112,7 +112,7 @@ def counted(program: Program, image: Path, lines: Iterable[str]) -> Counted:
 
 
 def opened_again(program: Program, image: Path, states: list[RecordMap], what: str) -> list[str]:
-    """What is wrong of a file that is opened again: first with a fault in its first write, where it makes one, and then without."""
+    """What is wrong of a file that is opened again: first with a fault in its first write, if it makes one, and then without."""
     done = play(program, image, [], Fault("pwrite64", "EIO", 1).traced())
     if done.status not in (0, 5) or done.replies:
         return [f"{what}: the next opening ended with status {done.status}"]
@@ -123,7 +123,7 @@ def opened_again(program: Program, image: Path, states: list[RecordMap], what: s
 
 
 def change_fails(program: Program, folder: Path, fault: Fault) -> list[str]:
-    """What is wrong where a change of an erased file fails."""
+    """What is wrong if a change of an erased file fails."""
     image = folder / "-".join(map(str, fault))
     image.write_bytes(FLASH.erased)
     with tempfile.NamedTemporaryFile() as log:
@@ -138,7 +138,7 @@ def change_fails(program: Program, folder: Path, fault: Fault) -> list[str]:
 
 
 def making_fails(program: Program, folder: Path, fault: Fault) -> list[str]:
-    """What is wrong where the making of a file fails."""
+    """What is wrong if the making of a file fails."""
     inside = folder / f"new-{'-'.join(map(str, fault))}"
     inside.mkdir()
     image, what = inside / "image", f"a new file, {fault}"

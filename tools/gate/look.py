@@ -131,7 +131,7 @@ def some_images(count: int, chance: random.Random) -> Iterator[bytes]:
     yield from images_of(SIX, REPLACEMENT)
     yield from cut_images()
     yield from images_of(NINE, [write(5, 900), write(5, 1300), write(7, 200), "clear 5"])[::3]
-    for path in sorted(TOP.glob("tests/scripts/*/image")):
+    for path in sorted(TOP.glob("tests/scripts/*/*/image")):
         image = path.read_bytes()
         if len(image) % SIZE == 0 and len(image) >= 2 * SIZE:
             yield image
@@ -158,7 +158,7 @@ def played_images(player: Program, folder: Path, chance: random.Random) -> Itera
             yield left_by(slots, script(lines))
     for name in EXAMPLES:
         path.unlink()
-        yield left_by(8, (TOP / "examples" / f"{name}.script").read_bytes())
+        yield left_by(8, (TOP / "examples" / name / "script").read_bytes())
 
 
 def cut_off(look: Look, path: Path) -> Iterator[str]:

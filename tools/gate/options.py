@@ -3,7 +3,7 @@
     tools/run options [PROGRAM]
 
 PROGRAM is the built program, by default crates/apei/out/apei. Of each run the exit status and the text on standard error are compared with
-those of docs/SCRIPT.md, and where they tell what an option says, the replies.
+those of docs/SCRIPT.md, and if they tell what an option says, the replies.
 """
 
 import os
@@ -108,7 +108,7 @@ def lengths(runs: Runs) -> None:
 
 
 def too_little_memory(runs: Runs) -> None:
-    """A flash of 64 MiB where there is less memory."""
+    """A flash of 64 MiB if there is less memory."""
 
     def limit() -> None:
         resource.setrlimit(resource.RLIMIT_AS, (MEMORY, MEMORY))

@@ -1,20 +1,23 @@
-"""Ties each promise of the documents to the clauses that it stands on.
+"""Ties each promise of the documents to the clauses that it stands on, and looks up each name of PROOFS and of four other pages.
 
-    tools/run promises [LIST]
+    tools/run promises [list]
+    tools/run promises calls CRATE
 
-A promise is an item of README's list of what is proved, the sentence above it, a row of EMBED's table of promises, or a row or the sentence of
-PROOFS' ten theorems. Each has a comment, which a page does not show:
+A promise is the sentence of README, an item of PROOFS' list of what is proved, a row or the sentence of its ten theorems, or a row of the tables of
+promises of EMBED and KERNEL. Each has a comment, which a page does not show:
 
     <!-- clauses: CRATE FUNCTION CLAUSE .. if PREMISE, PREMISE; CRATE RECORD.FIELD if PREMISE -->
 
-FUNCTION is the name of a public function, a method with its type (`Port::read`), and CLAUSE are names of its clauses, none where it has one
+FUNCTION is the name of a public function, a method with its type (`Port::read`), and CLAUSE are names of its clauses, none if it has one
 without a name. RECORD.FIELD is a field of a definition, which the contract of a function of the same comment names, directly or through others.
 The premises are those of the clauses and what the function requires: a relation by its name, another one as it stands. `the check` in place of
 clauses says that the check itself keeps the promise.
 
 A promise without a comment is wrong. So is a clause that is gone, whose function is private, or that asks something which the comment does not
 list; and so is a premise that is listed and not asked. Premises inside a definition that a clause names are not looked for. With the word `list`
-it writes each promise with its clauses.
+it writes each promise with its clauses; with `calls` the public calls of a crate, each with its clauses.
+
+How the names of a page are looked up stands in `apei/named.py`.
 """
 
 import re
@@ -25,17 +28,22 @@ from functools import cached_property
 
 from apei import TOP
 from apei.contracts import Function, at_top, called, functions, premises
+from apei.named import Names, wrong_names
 from dev.definitions import Definition, defined_at, definitions, imports, named_in, passed_on, reached
 
 MARKER = re.compile(r"<!-- clauses: (.*?) -->", re.DOTALL)
-# Where promises stand: a page, the line before them, and the line behind them.
+# Where promises stand: a page, the line before them, and the line after them.
 REGIONS = [
-    ("README.md", "## What is proved, in one sentence", "| word | what it means |"),
-    ("README.md", "**Proved.**", "**Not proved.**"),
+    ("README.md", "## What is proved, in one sentence", "## The jobs"),
+    ("docs/PROOFS.md", "## What is proved", "## Ten theorems"),
     ("docs/EMBED.md", "## What is promised", "### A format that is cut"),
+    ("docs/EMBED.md", "### What is promised of error sources", "### The boot error region"),
+    ("docs/KERNEL.md", "## What is promised", "A demand takes some 345 ns"),
     ("docs/PROOFS.md", "## Ten theorems", "The last column names"),
 ]
 BY_CHECK = "the check"
+# The pages whose names are looked up.
+NAMING = "docs/PROOFS.md", "docs/BRIDGE.md", "docs/HANDOVER.md", "docs/GLOSSARY.md", "docs/ARCHITECTURE.md"
 
 
 @dataclass(frozen=True)
@@ -175,14 +183,26 @@ def wrong_promise(promise: Promise, crates: Crates) -> Iterator[str]:
             yield from wrong_function(support, crates)
 
 
+def write_calls(crate: str) -> int:
+    called_there = [it for it in functions(TOP / "crates", [crate]) if it.is_public]
+    for it in called_there:
+        print(it.name, *(f"{clause.kind} {clause.name}".strip() + f": {clause.text}" for clause in it.clauses), sep="\n    ")
+    return 0 if called_there else 1
+
+
 def main(words: list[str]) -> int:
+    if words[:1] == ["calls"] and len(words) == 2:
+        return write_calls(words[1])
     crates = Crates()
     promises = [promise for region in REGIONS for promise in promises_in(*region)]
     if words == ["list"]:
         for promise in promises:
             print(promise.place, promise.text.partition("<!--")[0].strip(), *supports(promise.text), sep="\n    ")
     wrong = [f"{promise.place}: {told}" for promise in promises for told in wrong_promise(promise, crates)]
-    print(*wrong, sep="\n", end="\n" if wrong else "", file=sys.stderr)
     count = sum(max(len(it.clauses), 1) for promise in promises for it in supports(promise.text))
-    print(f"{len(promises)} promises on {count} clauses, {len(wrong)} wrong")
+    names = Names()
+    named = [wrong_names(TOP / page, names) for page in NAMING]
+    wrong += [told for _, more in named for told in more]
+    print(*wrong, sep="\n", end="\n" if wrong else "", file=sys.stderr)
+    print(f"{len(promises)} promises on {count} clauses, {sum(it for it, _ in named)} names, {len(wrong)} wrong")
     return 1 if wrong else 0

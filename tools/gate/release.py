@@ -49,10 +49,10 @@ class Unpacked(Tally):
 
 def examples(unpacked: Unpacked) -> Iterator[tuple[Path, list[str]]]:
     """The examples that are played to their end over no file, with their words."""
-    for path in sorted((unpacked.top / "examples").glob("*.script")):
-        words = path.with_suffix(".words")
+    for path in sorted((unpacked.top / "examples").glob("*/script")):
+        words = path.with_name("words")
         given = words.read_text().split() if words.exists() else ["sim"]
-        if not path.with_suffix(".status").exists() and "IMAGE" not in words_of(given):
+        if not path.with_name("status").exists() and "IMAGE" not in words_of(given):
             yield path, given
 
 
@@ -63,10 +63,10 @@ def words_of(given: list[str]) -> str:
 def plays(unpacked: Unpacked) -> None:
     for path, words in examples(unpacked):
         done = unpacked.run("bin/apei", *words, given=path.read_bytes())
-        unpacked.expect((done.status, done.written) == (0, path.with_suffix(".replies").read_bytes()), f"{path.name}: {done}")
-    swept = unpacked.run("bin/apei-sweep", "--sector=256", "--slots=4", "examples/crash-in-a-replacement.script")
+        unpacked.expect((done.status, done.written) == (0, path.with_name("replies").read_bytes()), f"{path.parent.name}: {done}")
+    swept = unpacked.run("bin/apei-sweep", "--sector=256", "--slots=4", "examples/crash-in-a-replacement/script")
     unpacked.expect(swept.status == 0 and swept.text.endswith(" 0 wrong\n"), f"apei-sweep: {swept}")
-    record = bytes.fromhex((unpacked.top / "examples/two-records.script").read_text().splitlines()[1].split()[-1])
+    record = bytes.fromhex((unpacked.top / "examples/two-records/script").read_text().splitlines()[1].split()[-1])
     shown = unpacked.run("bin/apei-show", "--brief", "-", given=record)
     unpacked.expect(shown.status == 0 and bool(shown.text), f"apei-show: {shown}")
     for name in ("apei", "apei-look", "apei-show"):

@@ -5,7 +5,7 @@
 
 PROGRAM is the built program, by default crates/apei/out/apei. Lines of both tables are given each number of steps from 0 until all are
 carried out, and what a stop left in memory is shown; power is lost in each change of a replacement, and each change fails, with each tear,
-and what is read afterwards is the older record or the new one; and SCRIPTS scripts, 300 where it is not said, are drawn at random. In the
+and what is read afterwards is the older record or the new one; and SCRIPTS scripts, 300 if it is not said, are drawn at random. In the
 second form the model's replies to a script are written, and nothing is run.
 """
 
@@ -28,7 +28,7 @@ WHOLE_LOOKS = ["peek 8064 32", "peek 4096 4096", "peek 1048576 4096"]
 
 
 def filled(identifier: int, length: int, first: int) -> bytes:
-    """A record with bytes behind its header that tell their places."""
+    """A record with bytes after its header that tell their places."""
     return record(identifier, length)[:128] + bytes((first + at + at // 251) % 256 for at in range(length - 128))
 
 

@@ -23,7 +23,7 @@ from typing import Any
 from apei import names
 from apei.bytes import spell
 from apei.harness import Ended, Program, Tally, given, scratch
-from apei.show import bodies, faults, files, layouts
+from apei.show import bodies, faults, files, layouts, parts, reading, refusals, smbios
 from apei.show.bodies import Chance
 from apei.show.compare import ITEM, differences, is_plain, wrong_of, wrong_text
 from apei.show.reading import Group, group
@@ -55,6 +55,10 @@ class Check(Tally):
     def __init__(self, program: Program, folder: Path) -> None:
         super().__init__("items and files")
         self.program, self.folder = program, folder
+        # Why Linux refused something of the tables that were tried.
+        self.refused: set[str] = set()
+        # How many parts were told.
+        self.told = 0
 
     def run(self, *words: str | Path, **options: Any) -> Ended:
         return self.program.run(*words, timeout=60, preexec_fn=limit, **options)
@@ -64,15 +68,15 @@ class Check(Tally):
         path.write_bytes(data)
         return path
 
-    def items_of(self, *paths: Path) -> list[Group]:
+    def items_of(self, *paths: str | Path) -> list[Group]:
         ran = self.run("--json", *paths)
         if ran.status or ran.said:
             raise ValueError(f"status {ran.status}, {ran.said[:300]!r}")
         return [json.loads(line, object_pairs_hook=once) for line in ran.replies]
 
-    def text_items(self, path: Path) -> list[list[str]]:
+    def text_items(self, *paths: str | Path) -> list[list[str]]:
         """The lines of each item, with places."""
-        text = self.run("--bytes", path).written.decode("latin-1")
+        text = self.run("--bytes", *paths).written.decode("latin-1")
         return [it.split("\n") for it in text.rstrip("\n").split("\n\n")]
 
     def well_formed(self, wanted: files.Wanted) -> None:
@@ -91,6 +95,31 @@ class Check(Tally):
         for at, (item, shown) in enumerate(zip(wanted.items, its)):
             wrong = wrong_item(item, shown, texts[at] if at < len(texts) else [])
             self.add(f"{wanted.name} ({shown['summary']}): {what}" for what in wrong)
+        self.refusals(path, [it["data"] for it in wanted.items if it["kind"] == "table"])
+        if any(parts.NAMED.keys() & {kind for _, kind, _ in parts.bodies_of(it)} for it in wanted.items if it["kind"] in ("record", "block")):
+            self.parts(path, wanted)
+
+    def parts(self, path: Path, wanted: files.Wanted) -> None:
+        """The same with the structures of an SMBIOS, which name the parts of the machine."""
+        drawn = smbios.Drawn(len(wanted.data))
+        table = drawn.naming([pair for it in wanted.items for pair in parts.numbers_of(it)])
+        entry = drawn.of.choice([bytes, lambda it: smbios.entry_point_32(it, 32) + it, lambda it: smbios.entry_point_64(it, 32) + it])
+        if len(table) > 0xFFFF:
+            entry = bytes
+        option = f"--smbios={self.file('smbios', entry(table))}"
+        found, texts = self.items_of(option, path)[len(wanted.own) :], self.text_items(option, path)[len(wanted.own) :]
+        for item, shown, text in zip(wanted.items, found, texts):
+            whole = {**item, "groups": item["groups"] + parts.part_groups(table, item)}
+            self.told += len(whole["groups"]) - len(item["groups"])
+            self.add(f"{wanted.name} with {option}: {what}" for what in wrong_item(whole, shown, text))
+
+    def refusals(self, path: Path, tables: list[bytes]) -> None:
+        """--strict has another status where Linux will not take all of a table."""
+        refused = {it.why for table in tables for it in reading.refused(table)}
+        self.refused |= refused
+        if tables:
+            status = self.run("--strict", path).status
+            self.expect(status == (3 if refused else 0), f"--strict has status {status}, and of the tables Linux refuses {refused}")
 
     def batch(self, some: Named, words: list[str]) -> list[str]:
         """What is wrong of files that may hold anything: each is shown, and nothing ends the program."""
@@ -178,6 +207,9 @@ def other_files(check: Check, chance: Chance) -> None:
         one_of(check, name, data, "record" if data[:4] == b"CPER" else by_name)
     one_of(check, "empty", b"", "empty")
     one_of(check, "blank", bytes(300), "blank")
+    one_of(check, "empty-block", bytes(16) + spell(3, 4) + bytes(chance.below(300)), "blank")
+    said = check.run("--brief", check.folder / "empty-block").text
+    check.expect("empty error status block" in said, f"an empty status block: {said!r}")
     one_of(check, "none", b"%PDF-1.4 nothing of this kind", "none")
     plain_file = check.file("plain", bodies.bert(chance))
     by_input = check.run("--json", "-", given=bodies.bert(chance))
@@ -255,6 +287,7 @@ def main(words: list[str]) -> int:
         for wanted in files.well_formed(chance, 8):
             whole.append(wanted.data)
             check.well_formed(wanted)
+        check.expect(len(check.refused) == refusals.REASONS, f"Linux refused the tables for {sorted(check.refused)} alone")
         for fault in faults.faults(chance):
             check.add(wrong_bad(check, fault))
         other_files(check, chance)

@@ -24,7 +24,7 @@ from apei.scripts import REPLACEMENT
 from apei.store import booted, cut_image, images_of
 
 FLASH = Geometry(SECTOR, PER_SLOT, 6)
-# A program whose reads show another record where power was lost, and one that says that it stored what it did not.
+# A program whose reads show another record if power was lost, and one that says that it stored what it did not.
 LIARS = {
     "a record is lost": "s/^record 1 200 [0-9a-f]*/refused not-found/",
     "a write is acknowledged early": "s/^refused hardware @12/wrote 1 200 @12/",

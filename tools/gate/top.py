@@ -82,6 +82,8 @@ SAID: list[tuple[str, bytes, int, list[str]]] = [
     ("apei-look --jason six", b"", 1, ["apei-look: bad words", "apei-look: --jason is no option; the nearest is --json", LOOK_BAD]),
     ("apei-show", b"", 1, ["apei-show: bad words", "apei-show: there is no file to show", SHOW_BAD]),
     ("apei-show --json --brief six", b"", 1, ["apei-show: bad words", "apei-show: --json and --brief are one too many", SHOW_BAD]),
+    ("apei-show --here six", b"", 1, ["apei-show: bad words", "apei-show: --here and a file are one too many", SHOW_BAD]),
+    ("apei-show --keep=kept six", b"", 1, ["apei-show: bad words", "apei-show: --keep belongs to --here", SHOW_BAD]),
     ("apei-show none", b"", 5, ["apei-show: none: No such file or directory (os error 2)", "apei-show: a file can't be read"]),
     ("apei-look none", b"", 5, ["apei-look: there is no such image", "apei-look: none: No such file or directory"]),
     ("apei play --image=six --per-slot=4 --slots=16", b"count\n", 6,
@@ -364,9 +366,9 @@ def placed(runs: Runs) -> None:
     for name in ("sweep", "cut", "explore"):
         helped = Program(moved / "bin" / f"apei-{name}").run("--help")
         runs.expect(helped.text.startswith(f"usage: apei-{name} "), f"apei-{name} --help: {helped}")
-    example = Program(moved / "bin/apei").run("sim", given=(moved / "share/apei/examples/two-records.script").read_bytes())
+    example = Program(moved / "bin/apei").run("sim", given=(moved / "share/apei/examples/two-records/script").read_bytes())
     runs.expect(example.text == "wrote 1 128 @6\nwrote 7 300 @13\n", f"an example that is installed: {example}")
-    swept = Program(moved / "bin/apei-sweep").run("--slots=4", "--sector=256", moved / "share/apei/examples/crash-in-a-replacement.script")
+    swept = Program(moved / "bin/apei-sweep").run("--slots=4", "--sector=256", moved / "share/apei/examples/crash-in-a-replacement/script")
     runs.expect(swept.status == 0 and swept.text.endswith(" cases, 0 wrong\n"), f"apei-sweep: {swept}")
     linked(runs, moved)
 

@@ -11,6 +11,6 @@ pub has_few : (port : PortState) (kind : Kind) (at : ℕ) (bytes before after : 
     → length before < 256
 has_few port Program at bytes before after due hands = elim hands [
   | inl has ↦ absurd (let is = has.0 in cc)
-  | inr lacks ↦ omega (arith, lacks.1, (due.2.may.few refl).1)
+  | inr lacks ↦ let page = (due.3.page refl).1 in omega (arith, lacks.1, page)
 ]
 has_few port Erase at bytes before after due hands = absurd (let is = hands.0 in cc)

@@ -5,3 +5,7 @@ pub mod HandleLemmas
 pub mod FormatLemmas
 pub mod CheckLemmas
 pub mod DueLemmas
+pub mod HoldingLemmas
+pub mod BoxedSources
+pub mod BoxedBoot
+pub mod BoxedClient

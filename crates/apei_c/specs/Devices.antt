@@ -12,7 +12,7 @@ use Rattle.erst_port.specs.declared.windows.Addresses.{Addresses as AnyAddresses
 use Rattle.erst_port.specs.Places.{location_of, range_location, are_apart}
 use Rattle.erst_port.specs.PortTables.{port_erst}
 use Rattle.erst_port.specs.Accesses.{number_read, NumberWritten, bytes_read, bytes_stored, Resets}
-use Rattle.erst_port.specs.Changes.{IsDueOn}
+use Rattle.erst_port.specs.Changes.{IsDueOn, noted}
 use Rattle.apei_c.specs.declared.status.Status.{Status}
 use Rattle.apei_c.specs.declared.status.Status.TheVariants.{Done, Window as NoWindow, Access, Nothing, Short, Addresses}
 use Rattle.apei_c.specs.Buffers.{Fills, ToldChange, told_change}
@@ -65,8 +65,8 @@ abbrev pub HandsDue : Kind → (bytes before : List ℕ) → (has_room : Bool) �
 HandsDue Program bytes before has_room after = Fills bytes before has_room after
 HandsDue Erase bytes before has_room after = (has_room ≡ true) × (after ≡ before)
 
--- the change that is due is told, by its place in the medium; or none is due; or the buffer has no room for its bytes, as no buffer of 256
--- lacks it; or it has 2^32 of them, which no geometry has
+-- the part of a change that is due is told, by its place in the medium; or none is due; or the buffer has no room for its bytes, as no buffer of
+-- 256 lacks it; or it has 2^32 of them, which no geometry has
 pub data TellsChange (port : PortState) (old : ToldChange) : Status → ToldChange → Type 0 where
   IsTold : (kind : Kind) (at : ℕ) (bytes after : List ℕ) → IsDueOn port kind at bytes → HandsDue kind bytes old.bytes true after
       → TellsChange port old Done (told_change (record { offset = at; length = length bytes; kind = number_of_kind kind }) after)
@@ -75,10 +75,10 @@ pub data TellsChange (port : PortState) (old : ToldChange) : Status → ToldChan
       → TellsChange port old Short (told_change old.change after)
   TooLong : (kind : Kind) (at : ℕ) (bytes : List ℕ) → IsDueOn port kind at bytes → 2 ^ 32 ≤ length bytes → TellsChange port old Short old
 
--- the change that was due was made
+-- the part that was due was made
 abbrev pub MakesChange : PortState → Status → PortState → Type 0
 MakesChange old status new =
-    ((status ≡ Nothing) × IsMade old × (new ≡ old)) ⊎ ((status ≡ Done) × (IsMade old → ⊥) × (new ≡ record old { made = old.made + 1 }))
+    ((status ≡ Nothing) × IsMade old × (new ≡ old)) ⊎ ((status ≡ Done) × (IsMade old → ⊥) × (new ≡ noted old))
 
 -- the table, and its size, also where the buffer is too short
 abbrev pub TellsTable : (before : List ℕ) → PortState → Status → (after : List ℕ) → (size : ℕ) → Type 0

@@ -6,7 +6,7 @@ use Rattle.script_laws.proofs.HistoryLemmas.{history_happens, history_ends_later
 use Rattle.script_laws.proofs.KeptCauses.{all_causes}
 use Rattle.script_laws.proofs.OrderLemmas.{history_order}
 use Rattle.script_laws.proofs.GivenBack.{history_gives_back}
-use Rattle.script_laws.proofs.KeptLines.{all_kept}
+use Rattle.script_laws.proofs.KeptLines.{all_kept, all_in_any}
 use Rattle.apei_cli.proofs.LineLaws.{HaveLaws}
 
 pub have_laws : (tells : Type 0) → HaveLaws tells
@@ -15,6 +15,7 @@ have_laws tells = record {
   ends = λ told. history_ends_later tells told;
   crash = λ told. history_shows tells told;
   kept = λ told. all_kept tells (own_programs tells) told;
+  in_any = λ told. all_in_any tells (own_programs tells) told;
   in_step = history_order tells;
   given_back = history_gives_back tells;
   causes = all_causes tells (own_programs tells);

@@ -1,11 +1,11 @@
 -- What is true of lines that were played, one after another, on one machine.
-use Rattle.std.specs.Prelude.{◌≡◌, ◌≤◌, ℕ, Bool, List, None}
+use Rattle.std.specs.Prelude.{◌≡◌, ◌<◌, ◌≤◌, ℕ, Bool, List, None}
 use Rattle.base_model.specs.Flash.{CrashImage, IsLater}
 use Rattle.record_model.specs.Records.{Stored}
-use Rattle.erst_machine.specs.MachineState.{IsMachine, told_of}
+use Rattle.erst_machine.specs.MachineState.{IsMachine, records_of, told_of}
 use Rattle.erst_machine.specs.Shown.{changes_of, shown_by}
 use Rattle.erst_commands.specs.Attached.{own_client}
-use Rattle.script_laws.specs.Spares.{KeepsAll}
+use Rattle.script_laws.specs.Spares.{KeepsAll, KeepsInAny}
 use Rattle.script_laws.specs.Orders.{IsInStep, AlwaysInStep, AllGiveStoredBack}
 use Rattle.script_laws.specs.KeptCauses.{AllHaveCauses}
 use Rattle.apei_script.specs.Players.{PlayerState, GivenNoOther}
@@ -38,6 +38,14 @@ KeepsAllBlocks tells = tells → (wants : List (ℕ → Bool)) (counts : List �
     → Follows tells wants counts first played last
     → (s : ℕ) (shown : Stored) → (changes_of first.machine ≤ s → ShowsLines s first played shown) → KeepsAll s first played shown
 
+-- so it is in any script. Before the end of the lines power was lost in them; from then on the image shows the records that they leave
+abbrev pub KeepsBlocksInAny : Type 0 → Type 0
+KeepsBlocksInAny tells = tells → (wants : List (ℕ → Bool)) (counts : List ℕ) (first : PlayerState) (played : List Played) (last : PlayerState)
+    → IsMachine first.machine → first.own ≡ own_client first.machine → Follows tells wants counts first played last
+    → (s : ℕ) (image : List ℕ) → (s < changes_of last.machine → CrashImage (told_of last.machine) s image)
+    → (changes_of last.machine ≤ s → shown_by first.machine image ≡ records_of last.machine)
+    → KeepsInAny s first played (shown_by first.machine image)
+
 -- a bridge that is on stays in step with the handover
 abbrev pub KeepsAllInStep : Type 0 → Type 0
 KeepsAllInStep tells = (wants : List (ℕ → Bool)) (counts : List ℕ) (first : PlayerState) (played : List Played) (last : PlayerState)
@@ -58,6 +66,7 @@ pub record HaveLaws (tells : Type 0) : Type 0 where
   pub ends : ShowsEnds tells
   pub crash : ShowsCrashes tells
   pub kept : KeepsAllBlocks tells
+  pub in_any : KeepsBlocksInAny tells
   pub in_step : KeepsAllInStep tells
   pub given_back : GivesAllStoredBack tells
   pub causes : GivesAllCauses tells

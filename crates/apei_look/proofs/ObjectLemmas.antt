@@ -14,18 +14,6 @@ pub record HasObjects (slot_size slots : ℕ) (image : List ℕ) (n : ℕ) (is_f
   pub first : is_first ≡ is_empty objects
   pub is : new ≡ old ++ objects
 
--- of a slot that is no first one there is none
-pub of_other : (slot_size slots : ℕ) (image : List ℕ) (k : ℕ) (kind : SlotKind) (is_first : Bool) → (kind ≡ First → ⊥)
-    → IsSlotObject slot_size slots image k kind is_first [] × (is_first ≡ is_first_behind kind is_first)
-of_other slot_size slots image k First is_first other = absurd (other refl)
-of_other slot_size slots image k Further is_first other = (refl, refl)
-of_other slot_size slots image k SecondCopy is_first other = (refl, refl)
-of_other slot_size slots image k Orphan is_first other = (refl, refl)
-of_other slot_size slots image k Filling is_first other = (refl, refl)
-of_other slot_size slots image k Killed is_first other = (refl, refl)
-of_other slot_size slots image k Erased is_first other = (refl, refl)
-of_other slot_size slots image k Unknown is_first other = (refl, refl)
-
 -- an object is not empty
 not_empty : (slot_size slots : ℕ) (image : List ℕ) (k : ℕ) (is_first : Bool) (before last object : List ℕ)
     → is_first ≡ is_empty before → last ≡ separator is_first ++ object → IsStoredObject slot_size slots image k object → false ≡ is_empty (before ++ last)

@@ -2,8 +2,6 @@
 use Rattle.std.proofs.Common.{◌≡◌, ◌∙◌, ℕ, zero, suc, ◌+◌, List, [], ◌∷◌, ◌++◌, drop, Some, refl, ap, sym, append_assoc, add-one}
 use Rattle.std.specs.Prelude.{slice_get}
 use Rattle.image_survey.specs.Kinds.{kind_at}
-use Rattle.image_survey.specs.declared.kinds.SlotKind.{SlotKind}
-use Rattle.image_survey.specs.declared.kinds.SlotKind.TheVariants.{First, Further, SecondCopy, Orphan, Filling, Killed, Erased, Unknown}
 use Rattle.cper_frame.specs.Grammar.{SectionValue}
 use Rattle.apei_look.specs.Records.{AreRecords, IsSlotText}
 use Rattle.apei_look.specs.Texts.{GrowsBy}
@@ -31,17 +29,6 @@ next_section of_section of_all one_by_one sections k section start old new here 
     ∙ append_assoc old (of_section k section) rest
     ∙ ap (λ (t : List ℕ). old ++ t) (sym split)
     ∙ invariant
-
--- nothing is written of a slot that is no first one
-pub of_other : (slot_size slots : ℕ) (image : List ℕ) (k : ℕ) (kind : SlotKind) → (kind ≡ First → ⊥) → IsSlotText slot_size slots image k kind []
-of_other slot_size slots image k First other = absurd (other refl)
-of_other slot_size slots image k Further other = refl
-of_other slot_size slots image k SecondCopy other = refl
-of_other slot_size slots image k Orphan other = refl
-of_other slot_size slots image k Filling other = refl
-of_other slot_size slots image k Killed other = refl
-of_other slot_size slots image k Erased other = refl
-of_other slot_size slots image k Unknown other = refl
 
 -- what was written of a slot stands behind that of those before it
 pub next_slot : (slot_size slots : ℕ) (image : List ℕ) (n : ℕ) {old middle new : List ℕ}

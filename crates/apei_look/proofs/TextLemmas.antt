@@ -1,19 +1,10 @@
 -- Texts one after another.
-use Rattle.std.proofs.Common.{◌≡◌, ◌∙◌, ℕ, ◌+◌, List, ◌++◌, ap, append_assoc, add-one}
-use Rattle.apei_look.specs.SlotTexts.{of_slots}
+use Rattle.std.proofs.Common.{◌≡◌, ◌∙◌, ℕ, ◌+◌, List, ◌++◌, append_assoc}
 
 -- two labels with what stands behind each, and an end
 pub behind_one_another : (old label said label' said' end : List ℕ)
     → ((old ++ (label ++ said)) ++ (label' ++ said')) ++ end ≡ old ++ ((((label ++ said) ++ label') ++ said') ++ end)
 behind_one_another old label said label' said' end = simp append_assoc
-
--- what is said of the next slot stands behind what is said of those before it
-pub next_of : (of_slot : ℕ → List ℕ) (n : ℕ) (start old new : List ℕ)
-    → new ≡ old ++ of_slot n
-    → old ≡ start ++ of_slots of_slot n
-    → new ≡ start ++ of_slots of_slot (n + 1)
-next_of of_slot n start old new written before =
-    rw add-one (written ∙ ap (λ (t : List ℕ). t ++ of_slot n) before ∙ append_assoc start (of_slots of_slot n) (of_slot n))
 
 -- the pieces of one `write!`
 pub four_pieces : (old a b c d : List ℕ) → old ++ (a ++ (b ++ (c ++ d))) ≡ old ++ (((a ++ b) ++ c) ++ d)

@@ -4,7 +4,7 @@ use Rattle.std.proofs.lemmas.List.{take-append-drop}
 use Rattle.std.specs.Io.KnownBytes.{Appends, Keeps, append_known}
 use Rattle.show_items.specs.Beginnings.{IsBegun}
 use Rattle.show_items.specs.Files.{ShowsFile, StopsFile}
-use Rattle.show_items.specs.Items.{bad_after, items_text}
+use Rattle.show_items.specs.Items.{AreNamedBy, bad_after, items_text, smbios_of}
 use Rattle.show_items.specs.declared.pages.Stop.{Stop}
 use Rattle.show_items.specs.declared.sheet.Manner.{Manner}
 use Rattle.show_items.specs.declared.sheet.Sheet.{Sheet}
@@ -55,6 +55,7 @@ sheet_written manner path bytes bad before after blank full path_is manner_is no
         items = items;
         are = shows.1;
         is = refl;
+        named_by = subst (λ (m : Manner). AreNamedBy (smbios_of m) items) manner_is shows.2.named_by;
         tells = tells ∙ shows.2.has_bad ∙ ap (λ (b : Bool). bad_after b items) sound;
       },
     )
@@ -70,31 +71,13 @@ page_begun (Some old) (Some now) (Some new) page part rest first keeps same = re
   begins = (rest, ap (λ (t : List ℕ). old ++ t) same ∙ sym (append_assoc old part rest) ∙ ap (λ (t : List ℕ). t ++ rest) (sym (keeps ∙ first)));
 }
 
--- what a call that took nothing left
-pub keeps_then : (a b c : Option (List ℕ)) → Keeps a b → Keeps b c → Keeps a c
-keeps_then None b c first then = tt
-keeps_then (Some one) None c first then = absurd first
-keeps_then (Some one) (Some two) None first then = absurd then
-keeps_then (Some one) (Some two) (Some three) first then = then ∙ first
-
 pub keeps_same : (a : Option (List ℕ)) → Keeps a a
 keeps_same None = tt
 keeps_same (Some one) = refl
 
-pub appends_kept : (a b c : Option (List ℕ)) (x : List ℕ) → Keeps a b → Appends b c x → Appends a c x
-appends_kept None b c x first then = tt
-appends_kept (Some one) None c x first then = absurd first
-appends_kept (Some one) (Some two) None x first then = absurd then
-appends_kept (Some one) (Some two) (Some three) x first then = then ∙ ap (λ (t : List ℕ). t ++ x) first
-
 pub appends_none : (a : Option (List ℕ)) → Appends a a []
 appends_none None = tt
 appends_none (Some one) = sym (append-nil one)
-
-pub kept_by_none : (a b : Option (List ℕ)) → Appends a b [] → Keeps a b
-kept_by_none None b first = tt
-kept_by_none (Some one) None first = absurd first
-kept_by_none (Some one) (Some two) first = first ∙ append-nil one
 
 -- what a blank sheet had written when a page could not be
 pub sheet_begun : (manner : Manner) (path bytes : List ℕ) (before after : Option (List ℕ)) (blank : Sheet)

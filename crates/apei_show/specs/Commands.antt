@@ -1,4 +1,4 @@
--- The command that clap reads: its flags, its option, and the files that stand by themselves.
+-- The command that clap reads: its flags, its options, and the files that stand by themselves.
 use Rattle.std.specs.Prelude.{[], ◌∷◌, Some, codes, fold}
 use Rattle.clap.specs.Words.{App, Rule, Text, new_rule, with_rule}
 use Rattle.clap.specs.declared.builder.action.ArgAction.TheVariants.{Append, SetTrue}
@@ -18,6 +18,6 @@ with_flag app name = with_rule app (flag_rule name)
 abbrev pub the_flags : App
 the_flags = fold with_flag (bare (codes "apei-show")) (codes "json" ∷ codes "brief" ∷ codes "bytes" ∷ codes "strict" ∷ [])
 
--- the command: the flags, the option, the paths
+-- the command: the flags, the options, the paths
 unfoldable pub the_command : App
-the_command = with_rule (with_option the_flags (codes "color")) files_rule
+the_command = with_rule (with_option (with_option the_flags (codes "color")) (codes "smbios")) files_rule

@@ -1,5 +1,5 @@
 -- What a command line asks for.
-use Rattle.std.specs.Prelude.{◌≡◌, Bool, true, false, List, [], Option, Some, None, String, codes, if◌then◌else◌, map, string_bytes}
+use Rattle.std.specs.Prelude.{◌≡◌, Bool, true, false, List, [], Option, Some, None, String, codes, if◌then◌else◌, map, option_map, string_bytes}
 use Rattle.std.specs.Option.{option_map_or}
 use Rattle.std.specs.Str.{bytes_eq}
 use Rattle.std.specs.declared.alloc.Global.{Global}
@@ -40,13 +40,18 @@ abbrev pub IsColor : Option Text → Color → Type 0
 IsColor None color = color ≡ Auto
 IsColor (Some word) color = color_of word ≡ Some color
 
--- what the flags, the option and the paths are
+-- a path, where it is given
+abbrev pub IsPath : Option Text → Option (String Global) → Type 0
+IsPath word path = option_map string_bytes path ≡ word
+
+-- what the flags, the options and the paths are
 pub record AreOptionsIn (rows : List Row) (options : Options) : Type 0 where
   pub files : AreFiles (all_of (codes "files") rows) options.files
   pub form : IsForm (is_set (codes "json") rows) (is_set (codes "brief") rows) options.form
   pub bytes : options.bytes ≡ is_set (codes "bytes") rows
   pub strict : options.strict ≡ is_set (codes "strict") rows
   pub color : IsColor (first_of (codes "color") rows) options.color
+  pub smbios : IsPath (first_of (codes "smbios") rows) options.smbios
 
 -- clap finds no fault in the words, and the options are what it then reads of them
 pub record AreOptionsOf (words : List (String Global)) (options : Options) : Type 0 where

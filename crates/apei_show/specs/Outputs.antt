@@ -5,7 +5,7 @@ use Rattle.std.specs.declared.io.ErrorKind.{ErrorKind}
 use Rattle.std.specs.declared.io.ErrorKind.TheVariants.{BrokenPipe, Interrupted}
 use Rattle.show_items.specs.Beginnings.{IsBegun}
 use Rattle.show_items.specs.Files.{AreItemsOfFile}
-use Rattle.show_items.specs.Items.{Shown, bad_after, items_text}
+use Rattle.show_items.specs.Items.{AreNamedBy, Shown, bad_after, items_text, smbios_of}
 use Rattle.show_items.specs.declared.pages.Stop.{Stop}
 use Rattle.show_items.specs.declared.pages.Stop.TheVariants.{Output, Closed}
 use Rattle.show_items.specs.declared.sheet.Form.{Form}
@@ -40,6 +40,7 @@ pub record IsWritten (manner : Manner) (text path bytes : List ℕ) (bad : Bool)
   pub items : List Shown
   pub are : AreItemsOfFile false (name_of path) bytes items
   pub is : text ≡ items_text manner path 0 items
+  pub named_by : AreNamedBy (smbios_of manner) items
   pub tells : bad ≡ bad_after false items
 
 -- of the items of a file all, or the first ones, or none

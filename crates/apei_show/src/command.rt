@@ -1,4 +1,4 @@
-// The command that clap reads: the flags, the option, and the files that stand by themselves.
+// The command that clap reads: the flags, the options, and the files that stand by themselves.
 ghost use Rattle.std.specs.Prelude.{◌≡◌, IfOk, false};
 ghost use Rattle.clap.specs.Words.{app_of, rule_of};
 ghost use Rattle.apei_show.specs.Commands.{files_rule, flag_rule, the_command};
@@ -16,13 +16,15 @@ pub(crate) const BYTES: &str = "bytes";
 
 pub(crate) const STRICT: &str = "strict";
 
-// The name of the option.
+// The names of the options.
 pub(crate) const COLOR: &str = "color";
+
+pub(crate) const SMBIOS: &str = "smbios";
 
 /// The name of the positionals, which are the files' paths.
 pub(crate) const FILES: &str = "files";
 
-/// Four flags, an option with one value, and any number of paths.
+/// Four flags, two options with one value each, and any number of paths.
 pub(crate) fn command<'a>(alloc: Global) -> Result<Command<'a>, AllocError>
     ensures { IfOk result (λ command. app_of command ≡ the_command) }
 {
@@ -32,6 +34,7 @@ pub(crate) fn command<'a>(alloc: Global) -> Result<Command<'a>, AllocError>
         .arg(flag(alloc, BYTES))?
         .arg(flag(alloc, STRICT))?
         .arg(option(alloc, COLOR))?
+        .arg(option(alloc, SMBIOS))?
         .arg(files(alloc))?;
     Ok(command)
 }

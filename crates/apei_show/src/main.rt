@@ -21,6 +21,7 @@ use crate::source::read_file;
 use crate::status::Status;
 use clap_words::{WordsError, end, words};
 use show_items::{Form as Shown, Manner};
+use smbios::table_in;
 use std::io::IsTerminal;
 use std::process::ExitCode;
 
@@ -32,11 +33,21 @@ fn main(rt: HostRuntime) -> ExitCode {
 // Does what the words behind the program's name ask for.
 fn run(rt: &HostRuntime) -> Result<Status, WordsError> {
     let options = options_of(rt.alloc(), &words(rt)?)?;
-    let manner = manner_of(rt, &options);
-    Ok(show_files(rt, &options, manner))
+    let mut files = System::new(rt);
+    let smbios = match smbios_of(rt, &mut files, &options) {
+        Ok(bytes) => bytes,
+        Err(status) => return Ok(status),
+    };
+    let table = match &smbios {
+        Some(bytes) => Some(table_in(bytes)),
+        None => None,
+    };
+    let manner = manner_of(rt, &options, table);
+    Ok(show_files(rt, &mut files, &options, manner))
 }
 
-fn manner_of(rt: &HostRuntime, options: &Options) -> Manner {
+// How items are shown; the parts that they are about are named by the structures of a table, where there is one.
+fn manner_of<'a>(rt: &HostRuntime, options: &Options, smbios: Option<&'a [u8]>) -> Manner<'a> {
     let colored = match options.color {
         Color::Always => true,
         Color::Never => false,
@@ -47,6 +58,7 @@ fn manner_of(rt: &HostRuntime, options: &Options) -> Manner {
         places: options.bytes,
         colored,
         named: options.files.len() > 1,
+        smbios,
     }
 }
 
@@ -61,15 +73,31 @@ fn shown_as(form: Form) -> Shown
     }
 }
 
+// The bytes of the file of SMBIOS structures, where one is given.
+fn smbios_of(
+    rt: &HostRuntime,
+    files: &mut System<'_>,
+    options: &Options,
+) -> Result<Option<Vec<u8>>, Status> {
+    match &options.smbios {
+        Some(path) => Ok(Some(read_file(rt, files, path.as_str())?)),
+        None => Ok(None),
+    }
+}
+
 // Shows the files, one after another. One that can't be read is named, and the others are shown all the same.
-fn show_files(rt: &HostRuntime, options: &Options, manner: Manner) -> Status {
-    let mut files = System::new(rt);
+fn show_files(
+    rt: &HostRuntime,
+    files: &mut System<'_>,
+    options: &Options,
+    manner: Manner<'_>,
+) -> Status {
     let mut output = Output::new(rt.stdout());
     let mut status = Status::Done;
     let mut is_first = true;
     for path in options.files.iter() {
         let path = path.as_str();
-        let found = match read_file(rt, &mut files, path) {
+        let found = match read_file(rt, files, path) {
             Ok(bytes) => Status::of_file(show_bytes(
                 &mut output,
                 rt.alloc(),

@@ -6,7 +6,7 @@ ghost use Rattle.clap_words.specs.declared.error.WordsError.TheVariants.{BadWord
 ghost use Rattle.apei_show.specs.Options.{AreBad, AreOptionsIn, AreOptionsOf};
 
 use crate::command::{BYTES, STRICT, command};
-use crate::values::{color, files, form, is_set};
+use crate::values::{color, files, form, is_set, smbios};
 use clap::ArgMatches;
 use clap_words::{WordsError, matches_in};
 use std::alloc::Global;
@@ -42,10 +42,12 @@ pub struct Options {
     /// Whether a bad item makes the exit status another one.
     pub strict: bool,
     pub color: Color,
+    /// The path of the machine's SMBIOS structures, where it is given.
+    pub smbios: Option<String>,
 }
 
-/// What the words behind the program's name ask for: at least one path, and `--json`, `--brief`, `--bytes`, `--strict` and `--color`, each at most
-/// once. `--json` and `--brief` exclude each other.
+/// What the words behind the program's name ask for: at least one path, and `--json`, `--brief`, `--bytes`, `--strict`, `--color` and
+/// `--smbios`, each at most once. `--json` and `--brief` exclude each other.
 pub fn options_of(alloc: Global, words: &[String]) -> Result<Options, WordsError>
     ensures options { IfOk result (AreOptionsOf words.now) }
     ensures bad_words { result ≡ Err BadWords → AreBad words.now }
@@ -66,5 +68,6 @@ fn options_in(alloc: Global, matches: &ArgMatches<'_>) -> Result<Options, WordsE
         bytes: is_set(matches, BYTES),
         strict: is_set(matches, STRICT),
         color: color(matches)?,
+        smbios: smbios(alloc, matches)?,
     })
 }

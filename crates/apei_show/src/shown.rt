@@ -15,14 +15,14 @@ pub fn show_bytes<P: Pages>(
     alloc: Global,
     path: &str,
     bytes: &[u8],
-    manner: Manner,
+    manner: Manner<'_>,
     is_first: bool,
 ) -> Result<bool, Stop>
     ensures written { IfOk result (λ bad. (text : List ℕ)
-        × Appends (P.written pages.old) (P.written pages.new) (head_text manner is_first path.now ++ text)
-        × IsWritten manner text path.now bytes.now bad) }
+        × Appends (P.written pages.old) (P.written pages.new) (head_text manner.entry is_first path.now ++ text)
+        × IsWritten manner.entry text path.now bytes.now bad) }
     ensures cause { HasStop (P.failures pages.old) (P.failures pages.new) result }
-    ensures stopped { IfStopped result (StopsWriting manner (head_text manner is_first path.now) path.now bytes.now
+    ensures stopped { IfStopped result (StopsWriting manner.entry (head_text manner.entry is_first path.now) path.now bytes.now
         (P.written pages.old) (P.written pages.new)) }
 {
     write_head(pages, alloc, path, manner, is_first)?;
@@ -33,13 +33,13 @@ fn write_head<P: Pages>(
     pages: &mut P,
     alloc: Global,
     path: &str,
-    manner: Manner,
+    manner: Manner<'_>,
     is_first: bool,
 ) -> Result<(), Stop>
-    ensures written { OnOk result (Appends (P.written pages.old) (P.written pages.new) (head_text manner is_first path.now)) }
+    ensures written { OnOk result (Appends (P.written pages.old) (P.written pages.new) (head_text manner.entry is_first path.now)) }
     ensures cause { HasStop (P.failures pages.old) (P.failures pages.new) result }
     ensures stopped { IfStopped result (IsBegun (P.written pages.old)
-        (append_known (P.written pages.old) (head_text manner is_first path.now)) (P.written pages.new)) }
+        (append_known (P.written pages.old) (head_text manner.entry is_first path.now)) (P.written pages.new)) }
 {
     if !heads_files(&manner) {
         return Ok(());
@@ -49,7 +49,7 @@ fn write_head<P: Pages>(
 }
 
 // Whether a line with the path stands before the items of each file.
-fn heads_files(manner: &Manner) -> bool
+fn heads_files(manner: &Manner<'_>) -> bool
     ensures { result ≡ heads_files manner.now.form manner.now.named }
 {
     match manner.form {
@@ -75,12 +75,12 @@ fn write_items<P: Pages>(
     alloc: Global,
     path: &str,
     bytes: &[u8],
-    manner: Manner,
+    manner: Manner<'_>,
 ) -> Result<bool, Stop>
     ensures written { IfOk result (λ bad. (text : List ℕ)
-        × Appends (P.written pages.old) (P.written pages.new) text × IsWritten manner text path.now bytes.now bad) }
+        × Appends (P.written pages.old) (P.written pages.new) text × IsWritten manner.entry text path.now bytes.now bad) }
     ensures cause { HasStop (P.failures pages.old) (P.failures pages.new) result }
-    ensures stopped { IfStopped result (StopsWriting manner [] path.now bytes.now
+    ensures stopped { IfStopped result (StopsWriting manner.entry [] path.now bytes.now
         (P.written pages.old) (P.written pages.new)) }
 {
     let mut sheet = Sheet::new(alloc, path, manner);

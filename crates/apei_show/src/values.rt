@@ -4,9 +4,9 @@ ghost use Rattle.std.specs.Option.{option_map_or};
 ghost use Rattle.clap.specs.Words.{all_of, first_of, found_of, rows_of};
 ghost use Rattle.clap_words.specs.Commands.{NoneFits};
 ghost use Rattle.clap_words.specs.declared.error.WordsError.TheVariants.{BadWords};
-ghost use Rattle.apei_show.specs.Options.{AreFiles, IsColor, IsForm, color_of, is_set};
+ghost use Rattle.apei_show.specs.Options.{AreFiles, IsColor, IsForm, IsPath, color_of, is_set};
 
-use crate::command::{BRIEF, COLOR, FILES, JSON};
+use crate::command::{BRIEF, COLOR, FILES, JSON, SMBIOS};
 use crate::{Color, Form};
 use clap::ArgMatches;
 use clap_words::{WordsError, text};
@@ -82,6 +82,18 @@ fn color_named(word: &str) -> Option<Color>
         "always" => Some(Color::Always),
         "never" => Some(Color::Never),
         _ => None,
+    }
+}
+
+/// The path of the SMBIOS structures, where it is given.
+pub(crate) fn smbios(alloc: Global, matches: &ArgMatches<'_>) -> Result<Option<String>, WordsError>
+    ensures smbios { IfOk result (IsPath (first_of (codes "smbios") (rows_of (found_of matches.now)))) }
+    ensures bad_words { result ≡ Err BadWords
+        → NoneFits (IsPath (first_of (codes "smbios") (rows_of (found_of matches.now)))) BadWords }
+{
+    match text(matches, SMBIOS) {
+        Some(path) => Ok(Some(String::from_str(alloc, path)?)),
+        None => Ok(None),
     }
 }
 

@@ -166,7 +166,7 @@ moves_fall entries command timings old at (TurnsOn before request answer moves i
     le_le _ _ _ (turns_fall entries command timings before.stage request answer before.left before.kept is) here
 
 -- an answer lowers it
-run_lowers : (state : RunState) (left : ℕ) (answer : Result ℕ SpaceFault) (demand : Demand) → demanded state ≡ Some demand → bound (answered state left answer).0 (answered state left answer).1 < bound state left
+pub run_lowers : (state : RunState) (left : ℕ) (answer : Result ℕ SpaceFault) (demand : Demand) → demanded state ≡ Some demand → bound (answered state left answer).0 (answered state left answer).1 < bound state left
 run_lowers (Ready c) left answer demand told = absurd (none-some demand told)
 run_lowers (Awaiting task awaited) left answer demand told = bound_falls task awaited left answer
 run_lowers (Ended result) left answer demand told = absurd (none-some demand told)

@@ -19,7 +19,8 @@ use Rattle.erst_client.proofs.CommandLemmas.{puts_on, writes_on, copies_on, read
 use Rattle.erst_client.proofs.AttachLemmas.{attaches_on}
 use Rattle.erst_client.proofs.RefusalLemmas.{write_own, copy_own, own_cause}
 use Rattle.erst_client.proofs.CauseLemmas.{OfAsked, fault_within, answer_within, fault_cause, rises, performs_cause, asks_cause, sequence_cause}
-use Rattle.erst_client.proofs.Terms.{client_of, attached, counted, named, OfAnswer}
+use Rattle.erst_client.specs.Asking.{counted, named}
+use Rattle.erst_client.proofs.Terms.{client_of, attached, OfAnswer}
 
 module _ {W : Type 0} (allows : W → Call → W → Type 0) (faults : W → ℕ) (reasons : (old new : W) (call : Call) → allows old call new → HasReason faults old call new) where
   puts_cause : (address : ℕ) (bytes : List ℕ) (old : W) (result : Result (Unit {0}) ClientError) (new : W) → Puts allows address bytes old result new → OfAnswer (faults old) (faults new) result

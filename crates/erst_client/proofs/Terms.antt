@@ -1,5 +1,5 @@
 -- Parts of a command, as proofs name them.
-use Rattle.std.specs.Prelude.{ℕ, ◌==◌, if◌then◌else◌, List, [], ◌∷◌, slice_get, slice_index, nat_lt, not, bit_and, Result, Ok, Err, ◌-◌, Option, Some, None, ◌^◌, IfErr}
+use Rattle.std.specs.Prelude.{ℕ, ◌==◌, if◌then◌else◌, List, [], ◌∷◌, slice_get, slice_index, nat_lt, not, bit_and, Result, Ok, Err, ◌-◌, Option, Some, None, IfErr}
 use Rattle.erst_entries.specs.declared.actions.Action.TheVariants.{GetExecuteOperationTimings}
 use Rattle.erst_client.specs.declared.requests.Request.{Request}
 use Rattle.erst_entries.specs.Layout.{Erst}
@@ -9,11 +9,13 @@ use Rattle.erst_interp.specs.declared.stops.RunStop.{RunStop}
 use Rattle.erst_client.specs.declared.errors.AttachError.{AttachError}
 use Rattle.erst_client.specs.declared.errors.AttachError.TheVariants.{Stopped, NonVolatile, NoRange}
 use Rattle.erst_client.specs.declared.errors.ClientError.{ClientError}
-use Rattle.erst_client.specs.declared.errors.ClientError.TheVariants.{TooLong, Trailing, Frame, Hardware, Stopped}
+use Rattle.erst_client.specs.declared.errors.ClientError.TheVariants.{TooLong, Trailing, Frame, Stopped}
 use Rattle.cper_frame.specs.declared.error.FrameError.{FrameError}
 use Rattle.apei_space.specs.declared.faults.SpaceFault.{SpaceFault}
 use Rattle.apei_space.specs.Calls.{Call, ReadBytes}
 use Rattle.erst_client.specs.Causes.{OfError}
+-- the answers of GET_RECORD_COUNT and of GET_RECORD_IDENTIFIER
+pub use Rattle.erst_client.specs.Asking.{counted, named}
 
 -- the timings are asked for where the table has entries for them
 abbrev pub timing_requests : ℕ → List Request
@@ -47,17 +49,6 @@ frame_refusal verdict have range = elim verdict [ Err error ↦ Some (Frame erro
 -- the record's length, the four bytes at 20, is read by one access
 abbrev pub LengthRead : {W : Type 0} → (W → Call → W → Type 0) → ClientState → W → List ℕ → Result (Unit {0}) SpaceFault → W → Type 0
 LengthRead allows client old field answer new = allows old (ReadBytes (address_in client.address 20) (0 ∷ 0 ∷ 0 ∷ 0 ∷ []) field answer) new
-
--- the answers of GET_RECORD_COUNT and of GET_RECORD_IDENTIFIER
-abbrev pub counted : Result ℕ RunStop → Result ℕ ClientError
-counted answer = elim answer [ Err stop ↦ Err (Stopped stop) | Ok count ↦ if count == 2 ^ 32 - 1 then Err Hardware else Ok count ]
-
-abbrev pub named : Result ℕ RunStop → Result (Option ℕ) ClientError
-named answer =
-    elim answer [
-      | Err stop ↦ Err (Stopped stop)
-      | Ok id ↦ if id == 0 then Err Hardware else (if id == 2 ^ 64 - 1 then Ok None else Ok (Some id))
-    ]
 
 -- the stop of END_OPERATION is answered only where all before it was well
 abbrev pub closed : Result (Unit {0}) ClientError → Result ℕ RunStop → Result (Unit {0}) ClientError

@@ -1,19 +1,26 @@
 -- A write that is told the answers of its accesses is a write.
-use Rattle.std.proofs.Common.{◌≡◌, ℕ, List, Option, Some, None, Result, Ok, Err, refl, sym, subst}
+use Rattle.std.proofs.Common.{◌≡◌, ℕ, ◌+◌, ◌*◌, ◌<◌, ◌≤◌, List, Option, Some, None, Result, Ok, Err, refl, sym, subst, arith}
 use Rattle.std.proofs.lemmas.Option.{none-some, same_Some}
 use Rattle.apei_space.specs.declared.faults.SpaceFault.{SpaceFault}
 use Rattle.apei_space.specs.Calls.{Call}
+use Rattle.erst_entries.specs.declared.entries.Entry.{Entry}
 use Rattle.erst_entries.specs.Layout.{Erst}
+use Rattle.erst_interp.specs.declared.demands.Demand.{Demand}
 use Rattle.erst_client.specs.declared.attaching.FoundRange.{FoundRange}
 use Rattle.erst_client.specs.declared.errors.ClientError.{ClientError}
 use Rattle.erst_client.specs.declared.errors.ClientError.TheVariants.{Range}
 use Rattle.erst_client.specs.declared.stages.Command.TheVariants.{Write}
+use Rattle.erst_client.specs.declared.stages.Part.TheVariants.{Begin}
 use Rattle.erst_client.specs.declared.writing.Writing.{Writing}
 use Rattle.erst_client.specs.declared.writing.Writing.TheVariants.{Record, Mark, Sequence, Refused}
+use Rattle.erst_client.specs.declared.writing.WriteDemand.{WriteDemand}
 use Rattle.erst_client.specs.Attaching.{client_with}
+use Rattle.erst_client.specs.Positions.{demanded_at}
+use Rattle.erst_client.specs.Bounds.{write_bound}
 use Rattle.erst_client.specs.Commands.{ClientState, write_refusal, NotPut, NotMarked, IsPut, Writes, IsNoRecord, IsNotPut, IsAsked}
-use Rattle.erst_client.specs.Writing.{begun, write_first, write_answered, write_result, write_left, WriteMoves, WriteStands, WriteMade}
+use Rattle.erst_client.specs.Writing.{begun, access_of, write_first, write_demanded, write_answered, write_result, write_left, WriteMoves, WriteStands, WriteMade}
 use Rattle.erst_client.proofs.PositionLemmas.{at_first, at_moves, in_answered, at_result}
+use Rattle.erst_client.proofs.BoundLemmas.{of_requesting, moves_fall, answered_falls}
 
 begun_stands : {W : Type 0} (allows : W → Call → W → Type 0) (client : ClientState) (bytes : List ℕ) (steps : ℕ) (first : W) (why : Option ClientError) → write_refusal bytes client.range ≡ why →
     WriteStands allows client bytes steps first (begun why) first
@@ -65,3 +72,39 @@ write_ends allows client bytes steps first Mark now result is so = absurd (none-
 write_ends allows client bytes steps first (Sequence at) now result is so =
     IsAsked so.mid result at.kept now so.is_record so.puts (at_result allows client.table.entries Write client.timings steps so.mid at now result is so.stands)
 write_ends allows client bytes steps first (Refused error) now result is so = subst (λ (r : Result (Unit {0}) ClientError). Writes allows client bytes steps first r steps now) (same_Some _ _ is) so
+
+-- the bound
+bound_begun : (entries : List Entry) (steps : ℕ) (why : Option ClientError) → write_bound entries steps (begun why) ≤ 302 + 4 * steps
+bound_begun entries steps None = omega arith
+bound_begun entries steps (Some error) = omega arith
+
+pub write_starts : (found : FoundRange) (bytes : List ℕ) (entries : List Entry) (steps : ℕ) → write_bound entries steps (write_first found bytes) ≤ 302 + 4 * steps
+write_starts found bytes entries steps = bound_begun entries steps (write_refusal bytes found.len)
+
+same_bound : (entries : List Entry) (steps : ℕ) (old at : Writing) → at ≡ old → write_bound entries steps at ≤ write_bound entries steps old
+same_bound entries steps old at same = subst (λ (w : Writing). write_bound entries steps w ≤ write_bound entries steps old) (sym same) (omega arith)
+
+pub write_goes : (entries : List Entry) (timings : Option (ℕ × ℕ)) (steps : ℕ) (old at : Writing) → WriteMoves entries timings old at → write_bound entries steps at ≤ write_bound entries steps old
+write_goes entries timings steps (Sequence old) (Sequence at) moves = moves_fall entries Write timings old at moves
+write_goes entries timings steps Record at moves = same_bound entries steps Record at moves
+write_goes entries timings steps Mark at moves = same_bound entries steps Mark at moves
+write_goes entries timings steps (Refused error) at moves = same_bound entries steps (Refused error) at moves
+write_goes entries timings steps (Sequence old) Record moves = same_bound entries steps (Sequence old) Record moves
+write_goes entries timings steps (Sequence old) Mark moves = same_bound entries steps (Sequence old) Mark moves
+write_goes entries timings steps (Sequence old) (Refused error) moves = same_bound entries steps (Sequence old) (Refused error) moves
+
+-- what was wanted of a sequence
+wanted : (told : Option Demand) (demand : WriteDemand) → access_of told ≡ Some demand → (d : Demand) × (told ≡ Some d)
+wanted None demand is = absurd (none-some demand is)
+wanted (Some d) demand is = (d, refl)
+
+pub write_falls : (entries : List Entry) (found : FoundRange) (steps : ℕ) (at : Writing) (answer : Result ℕ SpaceFault) (demand : WriteDemand) → write_demanded found at ≡ Some demand →
+    write_bound entries steps (write_answered entries steps at answer) < write_bound entries steps at
+write_falls entries found steps Record (Ok number) demand is = omega arith
+write_falls entries found steps Record (Err fault) demand is = omega arith
+write_falls entries found steps Mark (Ok number) demand is = omega (arith, of_requesting entries Write Begin steps)
+write_falls entries found steps Mark (Err fault) demand is = omega arith
+write_falls entries found steps (Sequence at) answer demand is =
+    let told = wanted (demanded_at found.timings at) demand is in
+    answered_falls entries Write found.timings at.stage at.state at.left at.kept answer told.0 told.1
+write_falls entries found steps (Refused error) answer demand is = absurd (none-some demand is)

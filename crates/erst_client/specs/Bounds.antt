@@ -10,6 +10,8 @@ use Rattle.erst_interp.specs.Told.{bound}
 use Rattle.erst_client.specs.declared.positions.Position.{Position}
 use Rattle.erst_client.specs.declared.stages.Stage.{Stage}
 use Rattle.erst_client.specs.declared.stages.Stage.TheVariants.{Requesting, Checking, Waiting, Judging, Ending, Done}
+use Rattle.erst_client.specs.declared.writing.Writing.{Writing}
+use Rattle.erst_client.specs.declared.writing.Writing.TheVariants.{Record, Mark, Sequence, Refused}
 
 -- CHECK_BUSY_STATUS, of so many entries, has taken a step since it began, or will take none: that step pays for the wait after it
 abbrev pub paid : ℕ → RunState → ℕ
@@ -30,3 +32,10 @@ bound_in entries (Done result) state left kept = 0
 -- at least the accesses that the command still makes
 abbrev pub bound_of : List Entry → Position → ℕ
 bound_of entries at = bound_in (length (program_of (code_of CheckBusyStatus) entries).entries) at.stage at.state at.left at.kept
+
+-- the same of a write, which puts the record and its mark first
+abbrev pub write_bound : List Entry → ℕ → Writing → ℕ
+write_bound entries steps Record = 302 + 4 * steps
+write_bound entries steps Mark = 301 + 4 * steps
+write_bound entries steps (Sequence at) = bound_of entries at
+write_bound entries steps (Refused error) = 0

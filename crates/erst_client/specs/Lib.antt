@@ -10,4 +10,7 @@ pub mod Reaching
 pub mod Positions
 pub mod Bounds
 pub mod Writing
+pub mod Asking
+pub mod Finding
+pub mod Reading
 pub mod Steps

@@ -17,7 +17,7 @@ use Rattle.erst_client.specs.declared.writing.Writing.TheVariants.{Record, Mark,
 use Rattle.erst_client.specs.declared.writing.WriteDemand.{WriteDemand}
 use Rattle.erst_client.specs.declared.writing.WriteDemand.TheVariants.{PutRecord, PutMark, Access}
 use Rattle.erst_client.specs.Commands.{ClientState, write_refusal, address_in, Puts, Writes}
-use Rattle.erst_client.specs.Positions.{entered, demanded_at, answered_at, result_at, is_sound_at, Moves, MadeAt, StandsAt}
+use Rattle.erst_client.specs.Positions.{entered, demanded_at, answered_at, result_at, is_sound_at, is_settled_at, Moves, MadeAt, StandsAt}
 
 abbrev pub begun : Option ClientError → Writing
 begun None = Record
@@ -49,6 +49,11 @@ is_sound_write Record = true
 is_sound_write Mark = true
 is_sound_write (Sequence at) = is_sound_at at
 is_sound_write (Refused error) = true
+
+-- it can't go on without an access
+abbrev pub is_settled_write : Writing → Bool
+is_settled_write (Sequence at) = is_settled_at at.stage at.state
+is_settled_write writing = true
 
 abbrev pub write_result : Writing → Option (Result (Unit {0}) ClientError)
 write_result Record = None

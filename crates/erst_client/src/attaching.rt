@@ -73,7 +73,7 @@ fn ask_timings<S: Space>(
 }
 
 /// The range, if a client can use it.
-fn admit(
+pub fn admit(
     address: u64,
     len: u64,
     attributes: u64,

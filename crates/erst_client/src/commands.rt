@@ -5,6 +5,7 @@ ghost use Rattle.erst_client.specs.Commands.{Writes, Puts, ReadsInto, Counts, Na
 ghost use Rattle.erst_client.specs.Attaching.{client_with};
 ghost use Rattle.erst_client.specs.Sequences.{Sequence, clear_requests, dummy_requests};
 
+use crate::asking::{counted, named};
 use crate::attaching::FoundRange;
 use crate::errors::ClientError;
 use crate::requests::ask;
@@ -102,7 +103,7 @@ pub fn read_record<S: Space>(
 }
 
 /// Why a record of this length is not copied out of the range into so much room.
-fn copy_refusal(len: u64, range: u64, room: u64) -> Option<ClientError>
+pub fn copy_refusal(len: u64, range: u64, room: u64) -> Option<ClientError>
     ensures { result ≡ copy_refusal len range room }
 {
     if len < HEADER as u64 || range < len {
@@ -150,16 +151,7 @@ pub fn count_records<S: Space>(
     ensures { Between (Counts S.allows table.now.entries) (moment budget.old (S.state space.old)) result
         (moment budget.new (S.state space.new)) }
 {
-    match ask(table, Action::GetRecordCount, budget, space) {
-        Ok(count) => {
-            if count == u64::from(u32::MAX) {
-                Err(ClientError::Hardware)
-            } else {
-                Ok(count)
-            }
-        }
-        Err(stop) => Err(ClientError::Stopped(stop)),
-    }
+    counted(ask(table, Action::GetRecordCount, budget, space))
 }
 
 /// Asks for an identifier.
@@ -171,12 +163,7 @@ pub fn next_identifier<S: Space>(
     ensures { Between (Names S.allows table.now.entries) (moment budget.old (S.state space.old)) result
         (moment budget.new (S.state space.new)) }
 {
-    match ask(table, Action::GetRecordIdentifier, budget, space) {
-        Ok(0) => Err(ClientError::Hardware),
-        Ok(u64::MAX) => Ok(None),
-        Ok(id) => Ok(Some(id)),
-        Err(stop) => Err(ClientError::Stopped(stop)),
-    }
+    named(ask(table, Action::GetRecordIdentifier, budget, space))
 }
 
 /// Fills the buffer from the start of the range.

@@ -1,6 +1,6 @@
 // A write that makes no access itself: the record and its mark are put into the range, and then its sequence runs.
 ghost use Rattle.std.specs.Prelude.{◌≡◌, true};
-ghost use Rattle.erst_client.specs.Writing.{write_first, write_demanded, write_answered, write_result, is_sound_write, WriteMoves};
+ghost use Rattle.erst_client.specs.Writing.{write_first, write_demanded, write_answered, write_result, is_sound_write, is_settled_write, WriteMoves};
 
 use crate::attaching::FoundRange;
 use crate::commands::{MARK_AT, refusal};
@@ -92,6 +92,7 @@ impl Writing {
     pub fn settled(self, table: &ErstTable, found: FoundRange) -> Writing
         requires { is_sound_write self ≡ true }
         ensures moves { WriteMoves table.now.entries found.timings self result }
+        ensures settled { is_settled_write result ≡ true }
         ensures sound { is_sound_write result ≡ true }
     {
         match self {

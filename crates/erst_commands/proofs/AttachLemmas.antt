@@ -43,12 +43,6 @@ requests-own : attach_requests own_entries
 unfolding own_entries entries_of
 requests-own = refl
 
--- a request of a machine whose VALUE says something, by an action that says something else
-record IsTold (budget value : ℕ) (base : MachineState) (answer left : ℕ) (last : MachineState) : Type 0 where
-  answer_is : answer ≡ value % 2 ^ 64
-  left_is : left + 2 ≡ budget
-  last_is : last ≡ with_value value base
-
 same_answer : (x y : ℕ) → ◌≡◌ {A = Result ℕ RunStop} (Ok x) (Ok y) → x ≡ y
 same_answer x y e = cc
 

@@ -79,10 +79,18 @@ fn execute<S: Space>(
     ensures { Between (Executes S.allows task.now) (moment budget.old (S.state space.old)) result
         (moment budget.new (S.state space.new)) }
 {
-    let mut awaited = match begun(task) {
+    let first = match begun(task) {
         Progress::Done(next) => return Ok(next),
         Progress::Stopped(stop) => return Err(stop),
         Progress::Awaits(first) => first,
+    };
+
+    // Most instructions have one access, which is made apart from the loop: that is quicker.
+    let answer = first.demand(task).make(space);
+    let mut awaited = match resumed(task, &first, budget, answer) {
+        Progress::Done(next) => return Ok(next),
+        Progress::Stopped(stop) => return Err(stop),
+        Progress::Awaits(second) => second,
     };
     'accesses: loop {
         let answer = awaited.demand(task).make(space);

@@ -1,5 +1,6 @@
 pub mod Puts
 pub mod Dues
+pub mod PartLemmas
 pub mod Logs
 pub mod Made
 pub mod LookLemmas

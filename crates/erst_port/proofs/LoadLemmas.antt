@@ -14,7 +14,9 @@ use Rattle.erst_entries.specs.Layout.{spelling}
 use Rattle.erst_device.specs.declared.registers.Operation.{Operation}
 use Rattle.erst_device.specs.declared.status.CommandStatus.{CommandStatus}
 use Rattle.erst_device.specs.DeviceState.{DeviceState}
+use Rattle.erst_port.specs.declared.parts.Made.{Made}
 use Rattle.erst_port.specs.declared.windows.Addresses.{Addresses}
+use Rattle.erst_port.specs.Parts.{nothing_made}
 use Rattle.erst_port.specs.declared.errors.OpenError.{OpenError}
 use Rattle.erst_port.specs.declared.errors.LoadError.{LoadError}
 use Rattle.erst_port.specs.declared.errors.LoadError.TheVariants as errors
@@ -107,7 +109,7 @@ module _ (start : ℕ) (geometry : Geometry) (image saved : List ℕ) (opened ne
       let no_past : length (flash_of opened).told.past ≤ 0 = let steps = opened_steps in omega arith in
       sym (image_at-now (flash_of opened).told 0 no_past) ∙ as_opened.kept.later.image ∙ sym same
 
-  none_made : new.made ≡ 0
+  none_made : new.made ≡ nothing_made
   none_made = ap (λ (p : PortState). p.made) resumes.others ∙ as_opened.made
 
   pub goes_on : GoesOn old new
@@ -121,7 +123,7 @@ module _ (start : ℕ) (geometry : Geometry) (image saved : List ℕ) (opened ne
         ready = subst IsReady back as_opened.store.ready;
         settled = subst IsSettled back as_opened.settled;
         image = λ none. ap (λ (s : StoreView). s.flash.told.image) resumes.store ∙ opened_image none;
-        made = λ none. none_made ∙ sym (steps_are ∙ none);
+        made = λ none. ap (λ (m : Made). m.changes) none_made ∙ sym (steps_are ∙ none);
         changes = steps_are;
         none_made = none_made;
       }

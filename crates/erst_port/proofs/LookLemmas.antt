@@ -75,16 +75,6 @@ value_is old store (Ok (Some id)) = refl
 value_is old store (Ok None) = refl
 value_is old store (Err error) = refl
 
-store_is : (old : DeviceState) (store : StoreView) (result : Result (Option ℕ) StoreError) → (found result store (given_up old)).store ≡ store
-store_is old store (Ok (Some id)) = refl
-store_is old store (Ok None) = refl
-store_is old store (Err error) = refl
-
-status_is : (old : DeviceState) (store : StoreView) (result : Result (Option ℕ) StoreError) → (found result store (given_up old)).status ≡ old.status
-status_is old store (Ok (Some id)) = refl
-status_is old store (Ok None) = refl
-status_is old store (Err error) = refl
-
 -- no identifier is all ones, and none is 0
 reserved_last : is_reserved (2 ^ 64 - 1) ≡ true
 unfolding is_reserved

@@ -14,6 +14,7 @@ use Rattle.flash_model.specs.declared.geometry.Geometry.{Geometry}
 use Rattle.image_survey.specs.Headers.{IsMedium}
 use Rattle.erst_port.specs.declared.windows.Addresses.{Addresses}
 use Rattle.erst_port.specs.declared.errors.OpenError.{OpenError}
+use Rattle.erst_port.specs.Parts.{nothing_made}
 use Rattle.erst_port.specs.PortState.{PortState, IsPort, state_of, table_size}
 use Rattle.erst_port.specs.Openings.{OpenedAs, OpenedOn, RefusesImage, RefusesOpening, NoFlash}
 
@@ -36,7 +37,7 @@ module _ (medium : List ℕ) (addresses : Addresses) (geometry : Geometry) (is :
 -- what was opened is a port
 pub is_port : (geometry : Geometry) (device : DeviceState) (range table : List ℕ) (addresses : Addresses) (origin size reach : ℕ) → IsOpened geometry device.store
     → size ≡ reach_of (geometry.slot_size - 64) → reach ≡ reach_of (geometry.slot_size - 64) → range ≡ zeros reach → length table ≡ table_size → table ≡ spelling (port_erst addresses.registers) → are_apart size addresses ≡ true → origin ≤ 32768
-    → IsLogged device.store.flash → IsPort (state_of device range table addresses origin 0)
+    → IsLogged device.store.flash → IsPort (state_of device range table addresses origin nothing_made)
 is_port geometry device range table addresses origin size reach opened size_is reach_is range_is long tells apart near known =
     let range_size : length range ≡ reach_of (geometry.slot_size - 64) = ap (λ (xs : List ℕ). length xs) range_is ∙ length-replicate reach 0 ∙ reach_is in
     record {
@@ -46,5 +47,6 @@ is_port geometry device range table addresses origin size reach opened size_is r
       apart = subst (λ (n : ℕ). are_apart n addresses ≡ true) (size_is ∙ sym range_size) apart;
       origin = near;
       behind = omega arith;
+      begun = λ more. absurd (omega (arith, more));
       known = λ _. known;
     }

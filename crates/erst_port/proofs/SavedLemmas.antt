@@ -129,13 +129,6 @@ is_status_numbered RecordNotFound = refl
 pub same_status : (one other : CommandStatus) → number_of one ≡ number_of other → one ≡ other
 same_status one other same = same_Some _ _ (sym (is_status_numbered one) ∙ ap status_numbered same ∙ is_status_numbered other)
 
--- no operation has a greater number, and no status
-pub no_operation : (number : ℕ) → 5 ≤ number → (operation : Option Operation) → operation_number operation ≡ number → ⊥
-no_operation number great operation is = let few = few_operations operation in omega arith
-
-pub no_status : (number : ℕ) → 6 ≤ number → (status : CommandStatus) → number_of status ≡ number → ⊥
-no_status number great status is = let few = few_statuses status in omega arith
-
 -- A layout is its numbers
 
 abbrev Rest : (sector per_slot slots slot_size : ℕ) → Type 0

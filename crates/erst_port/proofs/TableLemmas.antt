@@ -15,7 +15,7 @@ use Rattle.erst_entries.specs.declared.actions.Action.{Action}
 use Rattle.erst_entries.specs.declared.actions.Action.TheVariants.{BeginWriteOperation, BeginReadOperation, BeginClearOperation, EndOperation, SetRecordOffset, ExecuteOperation, CheckBusyStatus, GetCommandStatus, GetRecordIdentifier, SetRecordIdentifier, GetRecordCount, BeginDummyWriteOperation, GetErrorLogAddressRange, GetErrorLogAddressRangeLength, GetErrorLogAddressRangeAttributes, GetExecuteOperationTimings}
 use Rattle.erst_entries.specs.declared.entries.Entry.{Entry}
 use Rattle.erst_entries.specs.Actions.{code_of}
-use Rattle.erst_entries.specs.Layout.{IsEntry, AreEntries, entry_spelling, front_spelling, spelling, FitsErst}
+use Rattle.erst_entries.specs.Layout.{IsEntry, AreEntries, entry_spelling, front_spelling, spelling}
 use Rattle.erst_entries.specs.Tables.{IsErst}
 use Rattle.erst_entries.proofs.TableBytes.{upto-next, length-entries_spelling}
 use Rattle.erst_machine.specs.OwnTables.{own_header}
@@ -94,25 +94,6 @@ unfolding port_checksum
 checksum_byte registers = omega arith
 
 -- The table
-
-pub table_fits : (registers : ℕ) → registers + 8 < 2 ^ 64 → FitsErst (port_erst registers)
-table_fits registers below = record {
-  header = record {
-    signature = refl;
-    size = lit< tt;
-    revision = lit< tt;
-    checksum = checksum_byte registers;
-    oem_id = refl;
-    oem_table_id = refl;
-    oem_revision = lit< tt;
-    creator_id = refl;
-    creator_revision = lit< tt;
-  };
-  header_size = lit< tt;
-  reserved = lit< tt;
-  count = lit< tt;
-  entries = all_fit registers below;
-}
 
 pub table_size : (registers checksum : ℕ) → length (spelling (table_with registers checksum)) ≡ port_size
 unfolding spelling front_spelling header_spelling entry_spelling spelled port_entries

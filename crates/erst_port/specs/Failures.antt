@@ -11,6 +11,7 @@ use Rattle.image_survey.specs.Headers.{flash_size, IsMedium, RefusesMedium}
 use Rattle.erst_port.specs.declared.errors.OpenError.TheVariants.{Size, Memory}
 use Rattle.erst_port.specs.declared.errors.ReopenError.{ReopenError}
 use Rattle.erst_port.specs.declared.errors.ReopenError.TheVariants.{Medium, Geometry as OtherGeometry}
+use Rattle.erst_port.specs.Parts.{nothing_made}
 use Rattle.erst_port.specs.PortState.{PortState}
 use Rattle.erst_port.specs.Openings.{OpenedAs, open_error}
 
@@ -46,7 +47,7 @@ pub data RefusesAnew (port : PortState) (medium : List ℕ) : ReopenError → Ty
 -- the port goes on over what the medium holds, where each record is one of the medium's. A refusal changes nothing
 abbrev pub Fails : (medium : List ℕ) → PortState → Result (Unit {0}) ReopenError → PortState → Type 0
 Fails medium old (Ok done) new =
-    (opened : PortState) × OpenedAnew old medium opened × (new ≡ record old { device = ended_with opened.device.store old.device; made = 0 })
+    (opened : PortState) × OpenedAnew old medium opened × (new ≡ record old { device = ended_with opened.device.store old.device; made = nothing_made })
 Fails medium old (Err error) new = RefusesAnew old medium error × (new ≡ old)
 
 -- a device that ended what was begun by FAILED, and has begun nothing since

@@ -1,4 +1,5 @@
 pub mod Dues
+pub mod Parts
 pub mod Failures
 pub mod Contents
 pub mod Logs

@@ -15,6 +15,7 @@ use Rattle.erst_port.specs.declared.windows.Addresses.{Addresses}
 use Rattle.erst_port.specs.declared.errors.OpenError.{OpenError}
 use Rattle.erst_port.specs.declared.errors.LoadError.{LoadError}
 use Rattle.erst_port.specs.declared.errors.LoadError.TheVariants as errors
+use Rattle.erst_port.specs.Parts.{nothing_made}
 use Rattle.erst_port.specs.PortState.{PortState, flash_of, IsMade}
 use Rattle.erst_port.specs.Saved.{signature, head_size, operation_number, IsSaved}
 
@@ -78,7 +79,7 @@ pub record GoesOn (old new : PortState) : Type 0 where
   pub image : copies_in old.device.store ≡ 0 → (flash_of new).told.image ≡ (flash_of old).told.image
   pub made : copies_in old.device.store ≡ 0 → IsMade new
   pub changes : (flash_of new).steps ≡ copies_in old.device.store
-  pub none_made : new.made ≡ 0
+  pub none_made : new.made ≡ nothing_made
 
 -- so does a port that was loaded from the bytes as which the other one was saved, over the same image
 abbrev pub AnswersAsSaved : (image saved : List ℕ) → PortState → Type 0

@@ -16,6 +16,7 @@ use Rattle.erst_port.specs.declared.windows.Addresses.{Addresses}
 use Rattle.erst_port.specs.declared.errors.OpenError.{OpenError}
 use Rattle.erst_port.specs.declared.errors.OpenError.TheVariants as errors
 use Rattle.erst_port.specs.Places.{are_apart}
+use Rattle.erst_port.specs.Parts.{nothing_made}
 use Rattle.erst_port.specs.PortState.{PortState, flash_of}
 use Rattle.erst_port.specs.PortTables.{port_erst}
 
@@ -33,7 +34,7 @@ pub record OpenedAs (start : ℕ) (geometry : Geometry) (image : List ℕ) (plac
   pub erst : IsErst (port_erst places.registers) port.table
   pub addresses_are : port.addresses ≡ places
   pub origin_is : port.origin ≡ start
-  pub made : port.made ≡ 0
+  pub made : port.made ≡ nothing_made
   pub settled : IsSettled port.device.store
   pub flash : IsFlashOf (first_state image geometry.sector) (flash_of port)
   pub steps : (flash_of port).steps ≡ second_copies geometry.slot_size geometry.slots image

@@ -6,6 +6,7 @@ ghost use Rattle.erst_device.specs.Registers.{seen};
 ghost use Rattle.erst_port.specs.Failures.{DividesAs, ended_with, Fails, IsItsGeometry, OpenedAnew, RefusesAnew};
 
 use crate::errors::{OpenError, ReopenError};
+use crate::parts::NOTHING;
 use crate::port::Port;
 use erst_device::{CommandStatus, Device, Registers, Running};
 use flash_model::Geometry;
@@ -31,7 +32,7 @@ impl Port {
             made: _,
         } = opened;
         self.device = Device::resume(device.into_store(), registers);
-        self.made = 0;
+        self.made = NOTHING;
         Ok(())
     }
 

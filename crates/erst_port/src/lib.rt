@@ -18,6 +18,7 @@ mod mirror;
 mod mirror_laws;
 mod moving;
 mod open;
+mod parts;
 mod port;
 mod saving;
 mod settling;

@@ -12,6 +12,7 @@ ghost use Rattle.erst_port.specs.Openings.{OpenedAs, OpenedOn, RefusesImage, Ref
 use crate::MirrorFlash;
 use crate::errors::OpenError;
 use crate::memory::{blank, copied};
+use crate::parts::NOTHING;
 use crate::port::Port;
 use crate::table::table_at;
 use crate::windows::Addresses;
@@ -84,7 +85,7 @@ impl Port {
             table,
             addresses,
             origin,
-            made: 0,
+            made: NOTHING,
         })
     }
 }

@@ -4,12 +4,13 @@ ghost use Rattle.flash_model.specs.Layouts.{layout_of};
 ghost use Rattle.erst_port.specs.PortState.{flash_of};
 
 use crate::MirrorFlash;
+use crate::parts::Made;
 use crate::windows::Addresses;
 use erst_device::Device;
 use flash_model::Geometry;
 use std::marker::Model;
 
-/// An error record device over a flash in memory, its log range and its table, and how many of the flash's changes the medium has made.
+/// An error record device over a flash in memory, its log range and its table, and how much of the flash's changes the medium has made.
 #[derive(Drop)]
 pub struct Port {
     pub(crate) device: Device<MirrorFlash>,
@@ -17,7 +18,7 @@ pub struct Port {
     pub(crate) table: Vec<u8>,
     pub(crate) addresses: Addresses,
     pub(crate) origin: usize,
-    pub(crate) made: u64,
+    pub(crate) made: Made,
 }
 
 impl Model for Port {

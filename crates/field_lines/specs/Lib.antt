@@ -24,3 +24,4 @@ pub mod Pci
 pub mod Remapping
 pub mod Linux
 pub mod Sections
+pub mod Told

@@ -34,6 +34,7 @@ mod sources;
 mod style;
 mod table_rows;
 mod time;
+mod told;
 mod value;
 mod walk;
 
@@ -51,4 +52,5 @@ pub use sections::{SectionKind, fields_of, section_kind, section_layout};
 pub use sources::source_layout;
 pub use style::{Location, Mark, Style};
 pub use time::{add_date, add_stamp};
+pub use told::{NamedNumber, number_told, text_told};
 pub use walk::add_fields;

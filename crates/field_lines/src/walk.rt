@@ -94,8 +94,8 @@ pub(crate) fn shows_register(width: u16, names: &[&'static str], body: &[u8]) ->
     !names.is_empty() && width as usize <= body.len()
 }
 
-// Whether a field is valid and lies within a body of so many bytes.
-fn is_shown(field: &Field, valid: u64, len: usize) -> bool
+/// Whether a field is valid and lies within a body of so many bytes.
+pub(crate) fn is_shown(field: &Field, valid: u64, len: usize) -> bool
     ensures { result ≡ is_shown valid len (field_of field.now) }
 {
     if len < field.at as usize + field.width as usize {

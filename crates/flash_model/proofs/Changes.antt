@@ -1,5 +1,5 @@
 -- What a change of a simulated flash leaves is what every flash owes.
-use Rattle.std.proofs.Common.{◌≡◌, ℕ, ◌+◌, ◌-◌, ◌^◌, ◌<◌, ◌≤◌, inl, inr, ◌↔◌, Bool, true, false, cond, List, [], ◌∷◌, length, replicate, Option, Some, None, Result, Ok, Err, is_err, IsErr, OnOk, OnErr, is_some, refl, sym, ap, subst, ◌∙◌, arith, length-append}
+use Rattle.std.proofs.Common.{◌≡◌, ℕ, ◌+◌, ◌-◌, ◌^◌, ◌<◌, ◌≤◌, inl, inr, ◌↔◌, Bool, true, false, cond, List, [], ◌∷◌, length, replicate, Option, Some, None, Result, Ok, Err, IsErr, OnOk, is_some, refl, sym, ap, subst, ◌∙◌, arith, length-append}
 use Rattle.std.specs.Prelude.{◌==◌}
 use Rattle.std.proofs.lemmas.List.{length-replicate}
 use Rattle.base_model.specs.Bytes.{put_at, SameOutside}
@@ -232,15 +232,6 @@ pub image-follows : {T E : Type 0} (at : ℕ) (bytes : List ℕ) (old new : Simu
     → new ≡ after_change (fate_of old) old at bytes → IsErr result ↔ ChangeFails old
     → OnOk result (new.told.image ≡ put_at old.told.image at bytes)
 image-follows at bytes old new result follows fails = image-by (fate_of old) at bytes old new result follows fails
-
--- what a result says that is known to be an error, or not to be one
-pub at_err : {T E P : Type 0} (result : Result T E) → IsErr result → OnErr result P → P
-at_err (Err e) failed holds = holds
-at_err (Ok x) failed holds = (cc)
-
-pub at_ok : {T E P : Type 0} (result : Result T E) → is_err result ≡ false → OnOk result P → P
-at_ok (Ok x) succeeded holds = holds
-at_ok (Err e) succeeded holds = (cc)
 
 -- a change fails where it can't be counted, without power, and where it is torn
 pub ChangeFails-last : (old : Simulation) → steps_of old ≡ 2 ^ 64 - 1 → ChangeFails old

@@ -1,8 +1,9 @@
 -- The turns of the two sides of a plain handover with their blocks.
-use Rattle.std.proofs.Common.{◌≡◌, ◌∙◌, ℕ, ◌+◌, ◌-◌, ◌*◌, ◌<◌, ◌≤◌, min, List, length, take, map, Vec, Option, Some, None, refl, sym, ap, subst, arith}
+use Rattle.std.proofs.Common.{◌≡◌, ◌∙◌, ℕ, suc, ◌+◌, ◌-◌, ◌*◌, ◌<◌, ◌≤◌, min, List, [], ◌∷◌, length, take, map, get_or, All, Vec, Option, Some, None, refl, sym, ap, subst, arith}
 use Rattle.std.specs.declared.alloc.Global.{Global}
 use Rattle.std.specs.Vec.{with_items}
 use Rattle.std.proofs.lemmas.List.{with_items_is}
+use Rattle.std.proofs.lemmas.List.Elements.{All-get_or}
 use Rattle.base_model.specs.Bytes.{part, spelled, put_at}
 use Rattle.apei_space.specs.RamState.{RamState}
 use Rattle.ghes_ack.specs.declared.events.Side.TheVariants.{Firmware, Reader}
@@ -10,46 +11,42 @@ use Rattle.ghes_ack.specs.declared.events.Event.TheVariants.{Idle, Fill, Publish
 use Rattle.ghes_ack.specs.Machine.{Machine, Filling, Published, Reading, Acknowledged, Fits, with_piece, with_status}
 use Rattle.ghes_hub.specs.declared.plain.map.PlainMap.{PlainMap}
 use Rattle.ghes_ack.specs.declared.window_blocks.Blocks.{Blocks}
-use Rattle.ghes_ack.specs.WindowQueues.{TakesOut, HoldsNone, count_of}
-use Rattle.ghes_ack.specs.Windows.{block_bytes, HasAddressed, with_block}
+use Rattle.ghes_ack.specs.WindowQueues.{TakesOut, HoldsNone, count_of, held_of}
+use Rattle.ghes_ack.specs.Windows.{block_bytes, with_block}
 use Rattle.ghes_hub.specs.Plain.{PlainState, PlainStands}
 use Rattle.ghes_hub.proofs.Terms.{plain_window_of}
 use Rattle.ghes_ack.specs.Handovers.{over}
-use Rattle.ghes_hub.specs.PlainSides.{Turns, with_next_piece, ReaderMakes, Copies, Takes, Clears}
-use Rattle.ghes_hub.proofs.Terms.{Stands}
+use Rattle.ghes_hub.specs.PlainSides.{Turns, FirmwareMakes, Idles, Fills, Publishes, with_next_piece, ReaderMakes, Copies, Takes, Clears}
 use Rattle.ghes_ack.specs.Sides.{state_of, in_work, IsCopiedSoFar}
 use Rattle.ghes_ack.proofs.SideLemmas.{in_hand, none_in_hand}
-use Rattle.ghes_hub.proofs.PlainTurns.{next_fits, fills, publishes, frees, idles, finds}
+use Rattle.ghes_hub.proofs.PlainTurns.{frees, finds}
 
 -- the block in hand is one that the window takes
-pub fits_in_hand : (b t : Blocks PlainMap) (block : Vec ℕ Global) (ram : RamState) → TakesOut plain_window_of b t block → Stands (state_of Filling b) ram → HasAddressed b.map.status b.map.window ram × Fits b.map.window.len block.items
-fits_in_hand b t block ram out (m, st) =
-    (st.windows, next_fits (state_of Filling b) ram m block.items (map (λ v. v.items) t.waiting.items) out.held st)
+pub fits_in_hand : (b t : Blocks PlainMap) (block : Vec ℕ Global) → TakesOut plain_window_of b t block → All (Fits b.map.window.len) (held_of b) → Fits b.map.window.len block.items
+fits_in_hand b t block out all =
+    let some : length (held_of b) ≡ suc (length (map (λ v. v.items) t.waiting.items)) = ap length out.held in
+    subst (λ (blocks : List (List ℕ)). Fits b.map.window.len (get_or blocks 0 [])) out.held (All-get_or (Fits b.map.window.len) (held_of b) 0 [] (omega (arith, some)) all)
 
 pub fills_hand : (b t : Blocks PlainMap) (block : Vec ℕ Global) (bytes : List ℕ) (ram new : RamState) → TakesOut plain_window_of b t block → bytes ≡ block.items → 64 * t.filled < length block.items →
-    new ≡ with_block t.map.window ram (with_piece (block_bytes t.map.window ram) bytes t.filled) → (m : Machine) → PlainStands (state_of Filling b) ram m →
-    Turns Firmware Fill (over (state_of Filling b) ram) (over (state_of Filling (record t { at_work = Some block; filled = t.filled + 1 })) new) m
-fills_hand b t block bytes ram new out is more memory m st =
-    let h = state_of Filling b in
+    new ≡ with_block t.map.window ram (with_piece (block_bytes t.map.window ram) bytes t.filled) →
+    FirmwareMakes (state_of Filling b) ram Fill (state_of Filling (record t { at_work = Some block; filled = t.filled + 1 })) new
+fills_hand b t block bytes ram new out is more memory =
     let f = out.same.filled in
     let memory_b : new ≡ with_block b.map.window ram (with_piece (block_bytes b.map.window ram) block.items b.filled) =
     memory ∙ ap (λ (x : List ℕ). with_block t.map.window ram (with_piece (block_bytes t.map.window ram) x t.filled)) is
     ∙ ap (λ (k : ℕ). with_block t.map.window ram (with_piece (block_bytes t.map.window ram) block.items k)) f
     ∙ ap (λ (at : PlainMap). with_block at.window ram (with_piece (block_bytes at.window ram) block.items b.filled)) out.same.map in
-    subst (λ (after : PlainState). Turns Firmware Fill (over h ram) (over after new) m) (in_hand b t block Filling (b.filled + 1) (t.filled + 1) out (ap (λ (k : ℕ). k + 1) (sym f)))
-    (fills h ram new m block.items (map (λ v. v.items) t.waiting.items) refl out.held (omega (arith, more, f)) memory_b st)
+    Fills block.items (map (λ v. v.items) t.waiting.items) out.held (omega (arith, more, f)) refl (sym (in_hand b t block Filling (b.filled + 1) (t.filled + 1) out (ap (λ (k : ℕ). k + 1) (sym f)))) memory_b
 
 pub publishes_hand : (b t : Blocks PlainMap) (block : Vec ℕ Global) (bytes : List ℕ) (ram new : RamState) → TakesOut plain_window_of b t block → bytes ≡ block.items → length block.items ≤ 64 * t.filled →
-    new ≡ with_block t.map.window ram (with_status (block_bytes t.map.window ram) (take 4 bytes)) → (m : Machine) → PlainStands (state_of Filling b) ram m →
-    Turns Firmware Publish (over (state_of Filling b) ram) (over (state_of Published (record t { at_work = Some block; filled = 0 })) new) m
-publishes_hand b t block bytes ram new out is none memory m st =
-    let h = state_of Filling b in
+    new ≡ with_block t.map.window ram (with_status (block_bytes t.map.window ram) (take 4 bytes)) →
+    FirmwareMakes (state_of Filling b) ram Publish (state_of Published (record t { at_work = Some block; filled = 0 })) new
+publishes_hand b t block bytes ram new out is none memory =
     let f = out.same.filled in
     let memory_b : new ≡ with_block b.map.window ram (with_status (block_bytes b.map.window ram) (take 4 block.items)) =
     memory ∙ ap (λ (x : List ℕ). with_block t.map.window ram (with_status (block_bytes t.map.window ram) (take 4 x))) is
     ∙ ap (λ (at : PlainMap). with_block at.window ram (with_status (block_bytes at.window ram) (take 4 block.items))) out.same.map in
-    subst (λ (after : PlainState). Turns Firmware Publish (over h ram) (over after new) m) (in_hand b t block Published 0 0 out refl)
-    (publishes h ram new m block.items (map (λ v. v.items) t.waiting.items) refl out.held (omega (arith, none, f)) memory_b st)
+    Publishes block.items (map (λ v. v.items) t.waiting.items) out.held (omega (arith, none, f)) refl (sym (in_hand b t block Published 0 0 out refl)) memory_b
 
 -- the block at work is free
 pub frees_at : (b : Blocks PlainMap) (ram : RamState) → b.at_work ≡ None → (m : Machine) → PlainStands (state_of Acknowledged b) ram m → Turns Firmware Free (over (state_of Acknowledged b) ram) (over (state_of Filling b) ram) m
@@ -89,8 +86,8 @@ clears_at b rest ram new none gone far memory =
     let all : length b.last.items ≤ 64 * b.copied = subst (λ (o : Option (Vec ℕ Global)). IsCopiedSoFar b.copied o b.last) none far in
     Clears b.last.items work all refl (ap (λ (o : Option (Vec ℕ Global)). state_of Acknowledged (record b { at_work = o })) gone) memory
 
-pub idles_at : (b new : Blocks PlainMap) (ram : RamState) → HoldsNone plain_window_of b new → (m : Machine) → PlainStands (state_of Filling b) ram m → Turns Firmware Idle (over (state_of Filling b) ram) (over (state_of Filling new) ram) m
-idles_at b new ram none m st = subst (λ (after : PlainState). Turns Firmware Idle (over (state_of Filling b) ram) (over after ram) m) (sym (none_in_hand b new none)) (idles (state_of Filling b) ram m refl none.held st)
+pub idles_at : (b new : Blocks PlainMap) (ram : RamState) → HoldsNone plain_window_of b new → FirmwareMakes (state_of Filling b) ram Idle (state_of Filling new) ram
+idles_at b new ram none = Idles none.held refl (none_in_hand b new none) refl
 
 pub finds_at : (b : Blocks PlainMap) (ram : RamState) → count_of b.at_work ≡ 1 → (m : Machine) → PlainStands (state_of Published b) ram m → Turns Reader Found (over (state_of Published b) ram) (over (state_of Reading (record b { copied = 0 })) ram) m
 finds_at b ram one m st = subst (λ (o : Option (List ℕ)). Turns Reader Found (over (state_of Published b) ram) (over (record (state_of Published b) { situation = Reading; copied = 0; at_work = o }) ram) m) (same b.at_work one) (finds (state_of Published b) ram m refl st) where

@@ -1,12 +1,13 @@
 -- A turn of one side of a plain handover is the machine's turn, whatever the other side does.
-use Rattle.std.proofs.Common.{◌≡◌, ◌∙◌, ℕ, ◌<◌, ◌≤◌, length, inl, inr, Vec, Option, Some, None, IfSome, refl, sym, ap, subst, arith}
+use Rattle.std.proofs.Common.{◌≡◌, ◌∙◌, ℕ, ◌<◌, ◌≤◌, length, All, inl, inr, Vec, Option, Some, None, IfSome, refl, sym, ap, subst, arith}
+use Rattle.std.proofs.lemmas.List.Elements.{All-drop}
 use Rattle.std.specs.declared.alloc.Global.{Global}
 use Rattle.apei_space.specs.RamState.{RamState}
 use Rattle.ghes_ack.specs.declared.events.Side.{Side}
 use Rattle.ghes_ack.specs.declared.events.Side.TheVariants.{Firmware, Reader}
 use Rattle.ghes_ack.specs.declared.events.Event.{Event}
 use Rattle.ghes_ack.specs.declared.events.Event.TheVariants.{Free, Wait, Nothing, Found}
-use Rattle.ghes_ack.specs.Machine.{Machine, Situation, Filling, Published, Reading, Cleared, Acknowledged}
+use Rattle.ghes_ack.specs.Machine.{Machine, Situation, Filling, Published, Reading, Cleared, Acknowledged, Fits}
 use Rattle.ghes_ack.specs.Sides.{waiting_at, state_of, handover_of, view_of, in_work, AreApart, IsCopiedSoFar}
 use Rattle.ghes_ack.proofs.Terms.{looking_at}
 use Rattle.ghes_ack.specs.declared.ends.Ends.{Ends}
@@ -25,13 +26,14 @@ use Rattle.ghes_hub.proofs.Terms.{SideDone}
 use Rattle.ghes_hub.proofs.Terms.{Stands}
 use Rattle.ghes_ack.proofs.SideLemmas.{none_copied}
 use Rattle.ghes_ack.proofs.JoinLemmas.{situation_at}
-use Rattle.ghes_hub.proofs.PlainTurns.{waits, held_status, no_status, finds_nothing, work_fits, reader_made}
+use Rattle.ghes_hub.proofs.PlainTurns.{waits, held_status, no_status, finds_nothing, work_fits, firmware_made, reader_made}
 use Rattle.ghes_hub.proofs.PlainBlocks.{frees_at, finds_at}
 use Rattle.ghes_ack.specs.Windows.{block_status}
 
 -- each side can make a turn
 firmware_able : (firmware : FirmwareEnd) (reader : ReaderEnd) (b : Blocks PlainMap) (ram : RamState) → IsConsistent (record { firmware = firmware; reader = reader }) b → Stands (handover_of (record { firmware = firmware; reader = reader }) b) ram → FirmwareIsAble firmware b ram
-firmware_able (Writes write) reader b ram all stands = (all.sound, stands)
+firmware_able (Writes write) reader b ram all (m, st) =
+    (all.sound, st.windows, subst (All (Fits b.map.window.len)) (sym st.blocks) (All-drop (Fits b.map.window.len) m.acknowledged m.blocks st.state.blocks))
 firmware_able (Waits wait) reader b ram all (m, st) = st.windows
 
 -- the block that the reader copies fits
@@ -90,13 +92,14 @@ firmware_done : (firmware end : FirmwareEnd) (reader : ReaderEnd) (b new : Block
     SideDone Firmware event (record { firmware = firmware; reader = reader }) (record { firmware = end; reader = reader }) b new ram memory
 firmware_done (Writes write) (Writes later) (Looks look) b new ram memory event all stands makes = record {
   consistent = record { apart = tt; sound = makes.0 };
-  turns = makes.1;
+  turns = λ m st. firmware_made (state_of Filling b) (state_of Filling new) ram memory event m refl makes.1 st;
 }
 firmware_done (Writes write) (Waits wait) (Looks look) b new ram memory event all stands makes =
     let is : Published ≡ looking_at new.at_work = shown new.at_work makes.0.under_way in
     record {
       consistent = record { apart = tt; sound = subst (λ (s : Situation). IsSound s new) is makes.0 };
-      turns = λ m st. subst (λ (s : Situation). Turns Firmware event (over (state_of Filling b) ram) (over (state_of s new) memory) m) is (makes.1 m st);
+      turns = λ m st. subst (λ (s : Situation). Turns Firmware event (over (state_of Filling b) ram) (over (state_of s new) memory) m) is
+          (firmware_made (state_of Filling b) (state_of Published new) ram memory event m refl makes.1 st);
     }
 firmware_done (Writes write) end (Reads read) b new ram memory event all stands makes = absurd all.apart
 firmware_done (Writes write) end (Acknowledges acknowledge) b new ram memory event all stands makes = absurd all.apart

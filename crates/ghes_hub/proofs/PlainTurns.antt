@@ -20,7 +20,7 @@ use Rattle.ghes_hub.proofs.Terms.{settled}
 use Rattle.ghes_ack.specs.Windows.{block_bytes, address_at, HasAddressed, block_status, with_block}
 use Rattle.ghes_hub.specs.Plain.{PlainState, PlainStands}
 use Rattle.ghes_ack.specs.Handovers.{kept, over}
-use Rattle.ghes_hub.specs.PlainSides.{Turns, with_next_piece, ReaderMakes, Copies, Takes, Clears}
+use Rattle.ghes_hub.specs.PlainSides.{Turns, FirmwareMakes, Idles, Fills, Publishes, with_next_piece, ReaderMakes, Copies, Takes, Clears}
 use Rattle.ghes_hub.proofs.Terms.{Stands}
 use Rattle.ghes_ack.proofs.AddressLemmas.{length-window, window-with_window, address-with_window}
 use Rattle.ghes_hub.proofs.PlainMemory.{windows_window, length-plain_status, unchanged}
@@ -108,13 +108,13 @@ writes side event h after ram new bytes m n is a occurs same wide memory st =
     (subst (λ (at : PlainMap). HasAddressed at.status at.window new) (sym same) windows) (subst (λ (at : PlainMap). address_at at.status new ≡ at.window.block) (sym same) address)
 
 -- the firmware's block fits into the window
-pub next_fits : (h : PlainState) (ram : RamState) (m : Machine) (block : List ℕ) (rest : List (List ℕ)) → kept h ≡ block ∷ rest → PlainStands h ram m → Fits h.map.window.len block
+next_fits : (h : PlainState) (ram : RamState) (m : Machine) (block : List ℕ) (rest : List (List ℕ)) → kept h ≡ block ∷ rest → PlainStands h ram m → Fits h.map.window.len block
 next_fits h ram m block rest held st = (machine.oldest (kept_now h ram) m block rest held (agrees h ram m st)).fits
 
-pub idles : (h : PlainState) (ram : RamState) (m : Machine) → h.situation ≡ Filling → kept h ≡ [] → PlainStands h ram m → Turns Firmware Idle (over h ram) (over h ram) m
+idles : (h : PlainState) (ram : RamState) (m : Machine) → h.situation ≡ Filling → kept h ≡ [] → PlainStands h ram m → Turns Firmware Idle (over h ram) (over h ram) m
 idles h ram m now none st = stays Firmware Idle h h ram m (machine.idles (kept_now h ram) m now none (agrees h ram m st)) st.occurs refl st st.windows st.address
 
-pub fills : (h : PlainState) (ram new : RamState) (m : Machine) (block : List ℕ) (rest : List (List ℕ)) → h.situation ≡ Filling → kept h ≡ block ∷ rest → 64 * h.filled < length block →
+fills : (h : PlainState) (ram new : RamState) (m : Machine) (block : List ℕ) (rest : List (List ℕ)) → h.situation ≡ Filling → kept h ≡ block ∷ rest → 64 * h.filled < length block →
     new ≡ with_block h.map.window ram (with_piece (block_bytes h.map.window ram) block h.filled) → PlainStands h ram m →
     Turns Firmware Fill (over h ram) (over (record h { waiting = rest; at_work = Some block; filled = h.filled + 1 }) new) m
 fills h ram new m block rest now held more memory st =
@@ -126,7 +126,7 @@ fills h ram new m block rest now held more memory st =
     (settled_next Firmware Fill (kept_with (record h { waiting = rest; at_work = Some block; filled = h.filled + 1 }) (with_piece (block_bytes h.map.window ram) block h.filled)) m next st.occurs) next.agrees st.occurs refl wide memory st
 
 -- a block all of whose pieces are filled is published
-pub publishes : (h : PlainState) (ram new : RamState) (m : Machine) (block : List ℕ) (rest : List (List ℕ)) → h.situation ≡ Filling → kept h ≡ block ∷ rest → length block ≤ 64 * h.filled →
+publishes : (h : PlainState) (ram new : RamState) (m : Machine) (block : List ℕ) (rest : List (List ℕ)) → h.situation ≡ Filling → kept h ≡ block ∷ rest → length block ≤ 64 * h.filled →
     new ≡ with_block h.map.window ram (with_status (block_bytes h.map.window ram) (take 4 block)) → PlainStands h ram m →
     Turns Firmware Publish (over h ram) (over (record h { waiting = rest; at_work = Some block; filled = 0; situation = Published }) new) m
 publishes h ram new m block rest now held none memory st =
@@ -191,12 +191,22 @@ clears h ram new m block now is all memory st =
     ap (λ (t : Turned). (t.0, settled t.1 t.1.situation)) cleared.is ∙ ap (λ (n : Machine). (Clear, n)) (settles cleared.machine cleared.agrees.situation_is ∙ ap (λ (t : Turned). t.1) done.is) in
     writes Reader Clear h (record h { situation = Acknowledged; at_work = None }) ram new (with_status (block_bytes h.map.window ram) (spelled 4 0)) m done.machine both done.agrees (λ e. cc e) refl wide memory st
 
+-- a turn is the same with the same event, state and memory
+made_as : (side : Side) (event other : Event) (h after next : PlainState) (ram memory left : RamState) (m : Machine) → event ≡ other → after ≡ next → memory ≡ left → Turns side other (over h ram) (over next left) m → Turns side event (over h ram) (over after memory) m
+made_as side event other h after next ram memory left m is_event is_after is_memory done =
+    subst (λ (e : Event). Turns side e (over h ram) (over after memory) m) (sym is_event)
+    (subst (λ (s : PlainState). Turns side other (over h ram) (over s memory) m) (sym is_after)
+    (subst (λ (r : RamState). Turns side other (over h ram) (over next r) m) (sym is_memory) done))
+
+-- what a firmware makes that may write is the machine's turn
+pub firmware_made : (h after : PlainState) (ram memory : RamState) (event : Event) (m : Machine) → h.situation ≡ Filling → FirmwareMakes h ram event after memory → PlainStands h ram m → Turns Firmware event (over h ram) (over after memory) m
+firmware_made h after ram memory event m now (Idles none is_event is_after is_memory) st = made_as Firmware event Idle h after h ram memory ram m is_event is_after is_memory (idles h ram m now none st)
+firmware_made h after ram memory event m now (Fills block rest held more is_event is_after is_memory) st =
+    made_as Firmware event Fill h after (record h { waiting = rest; at_work = Some block; filled = h.filled + 1 }) ram memory memory m is_event is_after refl (fills h ram memory m block rest now held more is_memory st)
+firmware_made h after ram memory event m now (Publishes block rest held none is_event is_after is_memory) st =
+    made_as Firmware event Publish h after (record h { waiting = rest; at_work = Some block; filled = 0; situation = Published }) ram memory memory m is_event is_after refl (publishes h ram memory m block rest now held none is_memory st)
+
 -- what a reader makes that may read is the machine's turn: the window's piece is the block's own
-made_as : (event other : Event) (h after next : PlainState) (ram memory left : RamState) (m : Machine) → event ≡ other → after ≡ next → memory ≡ left → Turns Reader other (over h ram) (over next left) m → Turns Reader event (over h ram) (over after memory) m
-made_as event other h after next ram memory left m is_event is_after is_memory done =
-    subst (λ (e : Event). Turns Reader e (over h ram) (over after memory) m) (sym is_event)
-    (subst (λ (s : PlainState). Turns Reader other (over h ram) (over s memory) m) (sym is_after)
-    (subst (λ (r : RamState). Turns Reader other (over h ram) (over next r) m) (sym is_memory) done))
 
 next_is : (h : PlainState) (ram : RamState) (m : Machine) (block : List ℕ) → h.situation ≡ Reading → h.at_work ≡ Some block → 64 * h.copied < length block → PlainStands h ram m → with_next_piece h ram block ≡ block
 next_is h ram m block now is begins st = copies_over h ram block (64 * h.copied) (min 64 (length block - 64 * h.copied)) now is begins (omega (arith, begins)) (m, st)
@@ -204,13 +214,13 @@ next_is h ram m block now is begins st = copies_over h ram block (64 * h.copied)
 pub reader_made : (h after : PlainState) (ram memory : RamState) (event : Event) (m : Machine) → h.situation ≡ Reading → ReaderMakes h ram event after memory → PlainStands h ram m → Turns Reader event (over h ram) (over after memory) m
 reader_made h after ram memory event m now (Copies block is more is_event is_after is_memory) st =
     let same = next_is h ram m block now is (omega (arith, more)) st in
-    made_as event Copied h after (record h { copied = h.copied + 1 }) ram memory ram m is_event
+    made_as Reader event Copied h after (record h { copied = h.copied + 1 }) ram memory ram m is_event
     (is_after ∙ ap (λ (x : List ℕ). record h { at_work = Some x; copied = h.copied + 1 }) same ∙ ap (λ (o : Option (List ℕ)). record h { at_work = o; copied = h.copied + 1 }) (sym is)) is_memory
     (copies_more h ram m block now is more st)
 reader_made h after ram memory event m now (Takes block is more all is_event is_after is_memory) st =
     let same = next_is h ram m block now is more st in
-    made_as event Took h after (record h { copied = h.copied + 1; last = block }) ram memory ram m is_event
+    made_as Reader event Took h after (record h { copied = h.copied + 1; last = block }) ram memory ram m is_event
     (is_after ∙ ap (λ (x : List ℕ). record h { at_work = Some x; copied = h.copied + 1; last = x }) same ∙ ap (λ (o : Option (List ℕ)). record h { at_work = o; copied = h.copied + 1; last = block }) (sym is)) is_memory
     (copies_last h ram m block now is more all st)
 reader_made h after ram memory event m now (Clears block is all is_event is_after is_memory) st =
-    made_as event Clear h after (record h { situation = Acknowledged; at_work = None }) ram memory memory m is_event is_after refl (clears h ram memory m block now is all is_memory st)
+    made_as Reader event Clear h after (record h { situation = Acknowledged; at_work = None }) ram memory memory m is_event is_after refl (clears h ram memory m block now is all is_memory st)

@@ -1,18 +1,18 @@
 -- The two sides and the blocks of a plain handover, and what they are together.
-use Rattle.std.specs.Prelude.{◌≡◌, ℕ, ◌+◌, ◌*◌, ◌<◌, ◌≤◌, ◌^◌, List, length, Option, Some, None, IfSome, map}
+use Rattle.std.specs.Prelude.{◌≡◌, ℕ, ◌+◌, ◌*◌, ◌<◌, ◌≤◌, ◌^◌, List, [], ◌∷◌, length, take, All, Option, Some, None, IfSome, map}
 use Rattle.base_model.specs.Bytes.{spelled}
 use Rattle.apei_space.specs.RamState.{RamState}
 use Rattle.ghes_ack.specs.declared.events.Side.{Side}
 use Rattle.ghes_ack.specs.declared.events.Side.TheVariants.{Firmware, Reader}
 use Rattle.ghes_ack.specs.declared.events.Event.{Event}
-use Rattle.ghes_ack.specs.declared.events.Event.TheVariants.{Free, Wait, Nothing, Found, Copied, Took, Clear}
-use Rattle.ghes_ack.specs.Machine.{Machine, Situation, Filling, Published, Reading, Cleared, Acknowledged, with_status}
+use Rattle.ghes_ack.specs.declared.events.Event.TheVariants.{Idle, Fill, Publish, Free, Wait, Nothing, Found, Copied, Took, Clear}
+use Rattle.ghes_ack.specs.Machine.{Machine, Situation, Filling, Published, Reading, Cleared, Acknowledged, Fits, with_piece, with_status}
 use Rattle.ghes_ack.specs.OwnTurns.{firmware_at, reader_at}
 use Rattle.ghes_ack.specs.Sides.{IsCopiedSoFar, AreApart, situation_of, state_of}
 use Rattle.ghes_ack.specs.declared.window_blocks.Blocks.{Blocks}
-use Rattle.ghes_ack.specs.WindowQueues.{HasRoom, count_of}
+use Rattle.ghes_ack.specs.WindowQueues.{HasRoom, count_of, held_of}
 use Rattle.ghes_ack.specs.Pieces.{read_over}
-use Rattle.ghes_ack.specs.Handovers.{WithMemory, over}
+use Rattle.ghes_ack.specs.Handovers.{WithMemory, kept, over}
 use Rattle.ghes_hub.specs.declared.plain.map.PlainMap.{PlainMap}
 use Rattle.ghes_ack.specs.declared.ends.Ends.{Ends}
 use Rattle.ghes_ack.specs.declared.ends.FirmwareEnd.{FirmwareEnd}
@@ -55,9 +55,9 @@ pub record Turns (side : Side) (event : Event) (old new : WithMemory PlainState)
   pub map : new.state.map ≡ old.state.map
   pub memory_is : new.memory ≡ with_block old.state.map.window old.memory (block_bytes old.state.map.window new.memory)
 
--- the firmware can make a turn
+-- the firmware can make a turn: each block at work or waiting fits into the block's window
 abbrev pub FirmwareIsAble : FirmwareEnd → Blocks PlainMap → RamState → Type 0
-FirmwareIsAble (Writes write) b ram = IsSound Filling b × ((m : Machine) × PlainStands (state_of Filling b) ram m)
+FirmwareIsAble (Writes write) b ram = IsSound Filling b × HasAddressed b.map.status b.map.window ram × All (Fits b.map.window.len) (held_of b)
 FirmwareIsAble (Waits wait) b ram = HasAddressed b.map.status b.map.window ram
 
 -- a turn of a firmware that waits: the block is its own again exactly where the block status is 0
@@ -65,11 +65,21 @@ abbrev pub FindsClear : PlainMap → RamState → Event → FirmwareEnd → Type
 FindsClear map ram event (Writes write) = (block_status map.window ram ≡ 0) × (event ≡ Free)
 FindsClear map ram event (Waits wait) = (0 < block_status map.window ram) × (event ≡ Wait)
 
+-- a turn of a firmware that may write the block: there is none, it writes the next piece, or it publishes one all of whose pieces are written
+pub data FirmwareMakes (old : PlainState) (ram : RamState) (event : Event) (new : PlainState) (memory : RamState) : Type 0 where
+  Idles : kept old ≡ [] → event ≡ Idle → new ≡ old → memory ≡ ram → FirmwareMakes old ram event new memory
+  Fills : (block : List ℕ) (rest : List (List ℕ)) → kept old ≡ block ∷ rest → 64 * old.filled < length block → event ≡ Fill →
+      new ≡ record old { waiting = rest; at_work = Some block; filled = old.filled + 1 } →
+      memory ≡ with_block old.map.window ram (with_piece (block_bytes old.map.window ram) block old.filled) → FirmwareMakes old ram event new memory
+  Publishes : (block : List ℕ) (rest : List (List ℕ)) → kept old ≡ block ∷ rest → length block ≤ 64 * old.filled → event ≡ Publish →
+      new ≡ record old { waiting = rest; at_work = Some block; filled = 0; situation = Published } →
+      memory ≡ with_block old.map.window ram (with_status (block_bytes old.map.window ram) (take 4 block)) → FirmwareMakes old ram event new memory
+
 -- a turn of the firmware, whatever the reader does
 abbrev pub FirmwareTurns : FirmwareEnd → WithMemory (Blocks PlainMap) → Event → FirmwareEnd → WithMemory (Blocks PlainMap) → Type 0
 FirmwareTurns (Writes write) old event end new =
-    IsSound (firmware_at end) new.state × ((m : Machine) → PlainStands (state_of Filling old.state) old.memory m
-    → Turns Firmware event (over (state_of Filling old.state) old.memory) (over (state_of (firmware_at end) new.state) new.memory) m)
+    IsSound (firmware_at end) new.state
+    × FirmwareMakes (state_of Filling old.state) old.memory event (state_of (firmware_at end) new.state) new.memory
 FirmwareTurns (Waits wait) old event end new =
     FindsClear old.state.map old.memory event end × (new.state ≡ old.state) × (new.memory ≡ old.memory)
 

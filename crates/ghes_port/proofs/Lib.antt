@@ -1,4 +1,5 @@
 pub mod SourceLemmas
+pub mod BufferLemmas
 pub mod BlockLemmas
 pub mod MemoryLemmas
 pub mod WidthLemmas
@@ -14,3 +15,4 @@ pub mod BootLawLemmas
 pub mod SetupLemmas
 pub mod OpenedLemmas
 pub mod SharedLemmas
+pub mod MoveLemmas

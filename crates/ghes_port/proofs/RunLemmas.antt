@@ -1,7 +1,7 @@
 -- Whatever happens to a source, a memory and a guest.
-use Rattle.std.proofs.Common.{◌≡◌, ◌∙◌, ℕ, zero, suc, ◌+◌, ◌-◌, ◌*◌, ◌<◌, ◌≤◌, inl, inr, Bool, false, if◌then◌else◌, ◌==◌, Option, Some, None, Ok, List, [], ◌∷◌, ◌++◌, length, take, drop, All, bit_and, bit_or, refl, sym, ap, subst, arith, length-append, append_assoc}
+use Rattle.std.proofs.Common.{◌≡◌, ◌∙◌, ℕ, zero, suc, ◌+◌, ◌-◌, ◌*◌, ◌<◌, ◌≤◌, inl, inr, Bool, true, false, if◌then◌else◌, ◌==◌, Option, Some, None, Ok, List, [], ◌∷◌, ◌++◌, length, take, drop, All, bit_and, bit_or, refl, sym, ap, subst, arith, length-append, append_assoc}
 use Rattle.std.proofs.lemmas.Bool.{eq-eqb, ne_eqb, cases_lt}
-use Rattle.std.proofs.lemmas.List.{take-append-drop, take-append-le, drop-append-le, length-take}
+use Rattle.std.proofs.lemmas.List.{take-append-drop, take-append-le, drop-append-le, length-take, length-drop}
 use Rattle.base_model.specs.Bytes.{little, part, spelled}
 use Rattle.ghes_block.specs.Reading.{checked}
 use Rattle.ghes_block.proofs.Blocks.{passed, passed_more, passed_front, block_length, Passed}
@@ -11,12 +11,12 @@ use Rattle.ghes_port.specs.declared.stages.Stage.{Stage}
 use Rattle.ghes_port.specs.declared.stages.Stage.TheVariants.{Hide, TellAddress, ReadFirst, SetAck, Fill, ReadAck, ClearAck, Show, Notify, Await}
 use Rattle.ghes_port.specs.Places.{index_of, octets}
 use Rattle.ghes_port.specs.Memories.{bytes_from, with_bytes}
-use Rattle.ghes_port.specs.Machine.{SourceState, told, told_at, after, submitted, frees, piece_at, IsGood}
-use Rattle.ghes_port.specs.Sound.{IsPlaced, IsSource}
-use Rattle.ghes_port.specs.Readers.{IsRead, notices_of, waited_for, IsNotified, Reader, Looks, Copies, Owes, Answers, World, memory_after, status_at, number_in, address_in, answered, emptied, IsBegun, Happens, Submits, Accesses, GuestLooks, GuestCopies, GuestTakes, GuestAsks, GuestAnswers, Elsewhere, SameAck, SameParts, Leads, Stays, Then, IsAckApart, IsApart, IsFirst, IsPrefix, AreOff, IsBusy}
+use Rattle.ghes_port.specs.Machine.{SourceState, told, told_at, after, submitted, frees, stage_after, queue_after, ack_asked, piece_at, IsGood}
+use Rattle.ghes_port.specs.Sound.{IsPlaced, HasBits, IsSource}
+use Rattle.ghes_port.specs.Readers.{IsRead, notices_of, waited_for, IsNotified, Reader, Looks, Copies, Owes, Answers, World, memory_after, status_at, number_in, address_in, answered, emptied, IsBegun, Happens, Submits, Accesses, GuestLooks, GuestCopies, GuestTakes, GuestAsks, GuestAnswers, Elsewhere, SameAck, SameParts, Leads, Stays, Then, IsAckApart, IsApart, IsFirst, IsPrefix, AreOff, IsBusy, HasAnswered}
 use Rattle.ghes_port.proofs.MemoryLemmas.{far, length-bytes_from, two}
-use Rattle.ghes_port.proofs.WidthLemmas.{spelled_off, swapped}
-use Rattle.ghes_port.proofs.TogetherLemmas.{acked, IsClear, AreFilled, AreSoFar, AreAll, IsShown, IsTaken, IsOut, IsIn, AreTogether, status_is, front, hidden, front_off, short_off, asked_keeps, accessed}
+use Rattle.ghes_port.proofs.WidthLemmas.{spelled_off, swapped, set_back}
+use Rattle.ghes_port.proofs.TogetherLemmas.{acked, IsClear, AreFilled, AreSoFar, AreAll, IsShown, IsTaken, IsOut, IsIn, AreTogether, status_is, front, hidden, front_off, short_off, asked_keeps, freed_is, accessed}
 use Rattle.ghes_port.proofs.AddressLemmas.{IsAddressed, address_accessed, address_same, address_is}
 use Rattle.ghes_port.proofs.NoticeLemmas.{notified}
 use Rattle.ghes_port.proofs.SourceLemmas.{source_after, source_more}
@@ -83,7 +83,7 @@ more_taken map (one ∷ rest) left m block taken = (ap (λ (xs : List (List ℕ)
 
 more_out : (map : SourceMap) (queue left : List (List ℕ)) (m : ℕ → ℕ) (block : List ℕ) (reader : Reader) → IsOut map queue m left reader → IsOut map (queue ++ block ∷ []) m (left ++ block ∷ []) reader
 more_out map queue left m block Looks (inl shown) = inl (more_shown map queue left m block shown)
-more_out map queue left m block Looks (inr taken) = inr (more_taken map queue left m block taken)
+more_out map queue left m block Looks (inr answered) = inr (more_taken map queue left m block answered.0, answered.1)
 more_out map queue left m block (Copies copied) out = (more_shown map queue left m block out.0, out.1, out.2)
 more_out map queue left m block Owes out = (more_taken map queue left m block out.0, out.1)
 more_out map queue left m block (Answers read) out = (more_taken map queue left m block out.0, out.1)
@@ -112,9 +112,9 @@ out_looked map [] left m good (inl shown) = absurd shown
 out_looked map (block ∷ rest) left m good (inl shown) =
     let some : 0 < status_at map.block m = (status_is map.len m map.block block (good 0 block (omega (arith))) shown.1).0 in
     subst (λ (t : Bool). IsOut map (block ∷ rest) m left (if t then Looks else Copies [])) (sym (ne_eqb (status_at map.block m) 0 (λ e. omega (arith, e, some)))) (shown, omega (arith), refl)
-out_looked map [] left m good (inr taken) = absurd taken
-out_looked map (block ∷ rest) left m good (inr taken) =
-    subst (λ (t : Bool). IsOut map (block ∷ rest) m left (if t then Looks else Copies [])) (sym (eq-eqb (status_at map.block m) 0 taken.1)) (inr taken)
+out_looked map [] left m good (inr answered) = absurd answered.0
+out_looked map (block ∷ rest) left m good (inr answered) =
+    subst (λ (t : Bool). IsOut map (block ∷ rest) m left (if t then Looks else Copies [])) (sym (eq-eqb (status_at map.block m) 0 answered.0.1)) (inr answered)
 
 looked : (map : SourceMap) (queue left : List (List ℕ)) (m : ℕ → ℕ) (stage : Stage) → IsBegun stage → All (IsGood map.len) queue → AreTogether map queue m left stage Looks
     → AreTogether map queue m left stage (if status_at map.block m == 0 then Looks else Copies [])
@@ -192,7 +192,7 @@ copied_more map queue left m copied n small out =
 -- it takes the block
 took : (map : SourceMap) (queue left : List (List ℕ)) (m : ℕ → ℕ) (ack : Option AckRegister) → 20 ≤ map.len → IsAckApart map ack → acked map ack m ≡ false → map.ack ≡ ack
     → IsTaken map queue (with_bytes m map.block (spelled 4 0)) left → IsOut map queue (with_bytes m map.block (spelled 4 0)) left (emptied ack)
-took map queue left m None head apart clear is taken = inr taken
+took map queue left m None head apart clear is taken = inr (taken, ap (λ (o : Option AckRegister). acked map o (with_bytes m map.block (spelled 4 0))) is ∙ ap (frees None) (hidden m map.block))
 took map queue left m (Some ack) head apart clear is taken =
     let new : ℕ → ℕ = with_bytes m map.block (spelled 4 0) in
     let at : ℕ = index_of ack.place in
@@ -213,6 +213,14 @@ number_written map (block ∷ rest) left m ack value head apart taken =
     let at : ℕ = index_of ack.place in
     let n : ℕ = octets ack.access in
     (taken.0, ap little (far m at (spelled n value) map.block 4 (spelled_off map.block 4 at n value (front_off at n map.block map.len 4 (omega (arith, head)) apart.1))) ∙ taken.1)
+
+-- and its acknowledgement is there
+acked_now : (map : SourceMap) (m : ℕ → ℕ) (ack : AckRegister) (value : ℕ) → HasBits (Some ack) → map.ack ≡ Some ack
+    → acked map map.ack (with_bytes m (index_of ack.place) (spelled (octets ack.access) (bit_or value ack.set))) ≡ true
+acked_now map m ack value bits is =
+    let new : ℕ → ℕ = with_bytes m (index_of ack.place) (spelled (octets ack.access) (bit_or value ack.set)) in
+    ap (λ (o : Option AckRegister). acked map o new) is
+    ∙ eq-eqb (bit_and (number_in ack new) ack.set) ack.set (set_back ack.access m (index_of ack.place) value ack.set bits.1)
 
 -- somebody writes elsewhere
 status_else : (map : SourceMap) (m new : ℕ → ℕ) → 20 ≤ map.len → SameParts map m new → status_at map.block new ≡ status_at map.block m
@@ -260,7 +268,7 @@ taken_else map (block ∷ rest) left m new head same taken = (taken.0, status_el
 out_else : (map : SourceMap) (queue left : List (List ℕ)) (m new : ℕ → ℕ) (reader : Reader) → 20 ≤ map.len → All (IsGood map.len) queue → SameParts map m new → IsOut map queue m left reader
     → IsOut map queue new left reader
 out_else map queue left m new Looks head good same (inl shown) = inl (shown_else map queue left m new head good same shown)
-out_else map queue left m new Looks head good same (inr taken) = inr (taken_else map queue left m new head same taken)
+out_else map queue left m new Looks head good same (inr answered) = inr (taken_else map queue left m new head same answered.0, acked_else map map.ack m new head same same.ack ∙ answered.1)
 out_else map queue left m new (Copies copied) head good same out =
     let short = out.1 in
     (shown_else map queue left m new head good same out.0, out.1, out.2 ∙ sym (same.block map.block (length copied) (omega (arith)) (omega (arith, short))))
@@ -450,7 +458,10 @@ keeps_answer old ack read some is h =
       prefix = h.prefix;
       notified = h.notified;
       addressed = address_same s.map old.memory memory s.stage (answer_off s.map old.memory ack word apart) h.addressed;
-      together = of_out s.map s.queue (left_of old) memory s.stage Looks out.0 (inr (number_written s.map s.queue (left_of old) old.memory ack word h.source.placed.head apart out.1.0));
+      together = of_out s.map s.queue (left_of old) memory s.stage Looks out.0 (inr (
+        number_written s.map s.queue (left_of old) old.memory ack word h.source.placed.head apart out.1.0,
+        acked_now s.map old.memory ack (bit_and read ack.keep) (subst HasBits some h.source.placed.ack) some,
+      ));
     }
 
 pub keeps : (old new : World) → Happens old new → Holds old → Holds new
@@ -513,3 +524,32 @@ no_write map queue left m stage reader busy at = by_stage stage (is_out map queu
     by_stage Show there = absurd there
     by_stage Notify there = refl
     by_stage Await there = asked_keeps map map.ack m
+
+-- the next look, after the guest took the block that is waited for and acknowledged it
+fewer : (map : SourceMap) (queue left : List (List ℕ)) (m : ℕ → ℕ) → IsShown map queue m left → length left < length queue → ⊥
+fewer map [] left m shown few = shown
+fewer map (block ∷ rest) left m shown few = let same = ap length shown.0 in omega (arith, same, few)
+
+is_free : (map : SourceMap) (queue left : List (List ℕ)) (m : ℕ → ℕ) → IsOut map queue m left Looks → length left < length queue → acked map map.ack m ≡ true
+is_free map queue left m (inl shown) few = absurd (fewer map queue left m shown few)
+is_free map queue left m (inr answered) few = answered.1
+
+released_after : (s : SourceState) (value : ℕ) → s.stage ≡ Await → frees s.map.ack value ≡ true → after s value ≡ record s { stage = Fill 0; queue = drop 1 s.queue }
+released_after s value awaits free =
+    ap (λ (t : Stage). record s { stage = stage_after s.map s.queue t value; queue = queue_after s.map s.queue t value }) awaits
+    ∙ ap (λ (b : Bool). record s { stage = if b then Fill 0 else Await; queue = if b then drop 1 s.queue else s.queue }) free
+
+pub seen : (first last : World) (value : ℕ) → IsFirst first → Leads first last → HasAnswered last → IsRead (told last.source) last.memory value
+    → after last.source value ≡ record last.source { stage = Fill 0; queue = drop 1 last.source.queue }
+seen first last value f runs answered read =
+    let s : SourceState = last.source in
+    let h : Holds last = holds_last first last f runs in
+    let at : AreTogether s.map s.queue last.memory (left_of last) Await Looks =
+    subst (λ (t : Stage). AreTogether s.map s.queue last.memory (left_of last) t Looks) answered.0
+    (subst (λ (r : Reader). AreTogether s.map s.queue last.memory (left_of last) s.stage r) answered.1 h.together) in
+    let le = no_more last.taken last.submitted h.prefix in
+    let n = length-drop (length last.taken) last.submitted in
+    let many = answered.2 in
+    let asked : IsRead (ack_asked s.map s.map.ack) last.memory value = subst (λ (t : Stage). IsRead (told_at s.map s.queue t) last.memory value) answered.0 read in
+    released_after s value answered.0
+    (freed_is s.map s.map.ack last.memory value asked ∙ is_free s.map s.queue (left_of last) last.memory at (omega (arith, le, n, many)))

@@ -52,8 +52,12 @@ abbrev pub IsTaken : SourceMap → List (List ℕ) → (ℕ → ℕ) → List (L
 IsTaken map [] memory left = ⊥
 IsTaken map (block ∷ rest) memory left = (rest ≡ left) × (status_at map.block memory ≡ 0)
 
+-- and its acknowledgement is there
+abbrev pub IsAnswered : SourceMap → List (List ℕ) → (ℕ → ℕ) → List (List ℕ) → Type 0
+IsAnswered map queue memory left = IsTaken map queue memory left × (acked map map.ack memory ≡ true)
+
 abbrev pub IsOut : SourceMap → List (List ℕ) → (ℕ → ℕ) → List (List ℕ) → Reader → Type 0
-IsOut map queue memory left Looks = IsShown map queue memory left ⊎ IsTaken map queue memory left
+IsOut map queue memory left Looks = IsShown map queue memory left ⊎ IsAnswered map queue memory left
 IsOut map queue memory left (Copies copied) = IsShown map queue memory left × (length copied ≤ map.len) × (copied ≡ bytes_from memory map.block (length copied))
 IsOut map queue memory left Owes = IsTaken map queue memory left × (acked map map.ack memory ≡ false)
 IsOut map queue memory left (Answers read) = IsTaken map queue memory left × (acked map map.ack memory ≡ false)
@@ -283,7 +287,7 @@ not_acked map memory block (Some ack) good apart clear there =
     ap (λ (bs : List ℕ). bit_and (little bs) ack.set == ack.set) (far memory map.block (take 4 block) (index_of ack.place) (octets ack.access) off) ∙ clear
 
 -- what was read says whether the guest has acknowledged
-freed_is : (map : SourceMap) (ack : Option AckRegister) (memory : ℕ → ℕ) (value : ℕ) → IsRead (ack_asked map ack) memory value → frees ack value ≡ acked map ack memory
+pub freed_is : (map : SourceMap) (ack : Option AckRegister) (memory : ℕ → ℕ) (value : ℕ) → IsRead (ack_asked map ack) memory value → frees ack value ≡ acked map ack memory
 freed_is map None memory value read = ap (λ (x : ℕ). x % 2 ^ 32 == 0) read
 freed_is map (Some at) memory value read = ap (λ (x : ℕ). bit_and x at.set == at.set) read
 
@@ -295,9 +299,9 @@ waited : (map : SourceMap) (queue left : List (List ℕ)) (memory : ℕ → ℕ)
     → AreTogether map (if free then drop 1 queue else queue) memory left (if free then Fill 0 else Await) reader
 waited map queue left memory reader false is good out = out
 waited map [] left memory Looks true is good (inl shown) = absurd shown
-waited map [] left memory Looks true is good (inr taken) = absurd taken
+waited map [] left memory Looks true is good (inr answered) = absurd answered.0
 waited map (block ∷ rest) left memory Looks true is good (inl shown) = absurd (not_both (acked map map.ack memory) is shown.2)
-waited map (block ∷ rest) left memory Looks true is good (inr taken) = ((taken.0, taken.1), none_yet map memory rest (All-drop (IsGood map.len) 1 (block ∷ rest) good))
+waited map (block ∷ rest) left memory Looks true is good (inr answered) = (answered.0, none_yet map memory rest (All-drop (IsGood map.len) 1 (block ∷ rest) good))
 waited map [] left memory (Copies copied) true is good out = absurd out.0
 waited map (block ∷ rest) left memory (Copies copied) true is good out = absurd (not_both (acked map map.ack memory) is out.0.2)
 waited map queue left memory Owes true is good out = absurd (not_both (acked map map.ack memory) is out.1)

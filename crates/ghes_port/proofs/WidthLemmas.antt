@@ -1,7 +1,8 @@
 -- Numbers of an access, and what is read after they are written.
-use Rattle.std.proofs.Common.{◌≡◌, ◌∙◌, ℕ, ◌-◌, ◌<◌, ◌≤◌, ◌^◌, inl, inr, List, length, bit_and, refl, sym, ap, subst, arith, lit≤}
+use Rattle.std.proofs.Common.{◌≡◌, ◌∙◌, ℕ, zero, suc, ◌+◌, ◌-◌, ◌*◌, ◌/◌, ◌%◌, ◌<◌, ◌^◌, inl, inr, List, ◌∷◌, length, bit_and, bit_or, refl, sym, ap, subst, arith}
+use Rattle.std.proofs.Math.Nat.{mod-eq_of_lt, mul_assoc, pow-suc}
 use Rattle.std.proofs.lemmas.Grind.{and-not_self}
-use Rattle.std.proofs.lemmas.Nat.{and_le_r}
+use Rattle.std.proofs.lemmas.Nat.{and_le_r, or_mod, and_or_self}
 use Rattle.base_model.specs.Bytes.{little, spelled}
 use Rattle.base_model.proofs.BytesLemmas.{length-spelled, little-spelled}
 use Rattle.apei_tables.specs.declared.widths.Width.{Width}
@@ -17,12 +18,6 @@ octets_fit B8 = refl
 octets_fit B16 = refl
 octets_fit B32 = refl
 octets_fit B64 = refl
-
-pub octets_few : (access : Width) → octets access ≤ 64
-octets_few B8 = lit≤ tt
-octets_few B16 = lit≤ tt
-octets_few B32 = lit≤ tt
-octets_few B64 = lit≤ tt
 
 -- a mask that is cleared has no bit left
 pub no_bits : (access : Width) (read mask : ℕ) → mask < 2 ^ bits access → bit_and (bit_and read (2 ^ bits access - 1 - mask)) mask ≡ 0
@@ -51,3 +46,33 @@ read_back memory at n value small =
     let bytes : List ℕ = spelled n value in
     let there : bytes_from (with_bytes memory at bytes) at n ≡ bytes = subst (λ (k : ℕ). bytes_from (with_bytes memory at bytes) at k ≡ bytes) (length-spelled n value) (exact memory at bytes) in
     ap little there ∙ little-spelled n value small
+
+-- of a longer number the low bytes are
+spelled_same : (n value low high : ℕ) → value ≡ low + high * 256 ^ n → spelled n value ≡ spelled n low
+unfolding spelled
+spelled_same zero value low high is = refl
+spelled_same (suc n) value low high is =
+    let p : ℕ = high * 256 ^ n in
+    let wide : value ≡ low + p * 256 = is ∙ ap (λ (x : ℕ). low + high * x) (pow-suc 256 n) ∙ ap (λ (x : ℕ). low + x) (sym (mul_assoc high (256 ^ n) 256)) in
+    let first : value % 256 ≡ low % 256 = omega (arith, wide) in
+    let rest : value / 256 ≡ low / 256 + p = omega (arith, wide) in
+    ap (λ (x : ℕ). x ∷ spelled n (value / 256)) first ∙ ap (λ (xs : List ℕ). low % 256 ∷ xs) (spelled_same n (value / 256) (low / 256) high rest)
+
+read_part : (memory : ℕ → ℕ) (at n value low high : ℕ) → value ≡ low + high * 256 ^ n → low < 256 ^ n
+    → little (bytes_from (with_bytes memory at (spelled n value)) at n) ≡ low
+read_part memory at n value low high is small =
+    ap (λ (bytes : List ℕ). little (bytes_from (with_bytes memory at bytes) at n)) (spelled_same n value low high is) ∙ read_back memory at n low small
+
+read_low : (access : Width) (memory : ℕ → ℕ) (at value : ℕ) → little (bytes_from (with_bytes memory at (spelled (octets access) value)) at (octets access)) ≡ value % 2 ^ bits access
+read_low B8 memory at value = read_part memory at 1 value (value % 2 ^ 8) (value / 2 ^ 8) (omega (arith)) (omega (arith))
+read_low B16 memory at value = read_part memory at 2 value (value % 2 ^ 16) (value / 2 ^ 16) (omega (arith)) (omega (arith))
+read_low B32 memory at value = read_part memory at 4 value (value % 2 ^ 32) (value / 2 ^ 32) (omega (arith)) (omega (arith))
+read_low B64 memory at value = read_part memory at 8 value (value % 2 ^ 64) (value / 2 ^ 64) (omega (arith)) (omega (arith))
+
+-- bits that were set in it are read back
+pub set_back : (access : Width) (memory : ℕ → ℕ) (at value mask : ℕ) → mask < 2 ^ bits access
+    → bit_and (little (bytes_from (with_bytes memory at (spelled (octets access) (bit_or value mask))) at (octets access))) mask ≡ mask
+set_back access memory at value mask small =
+    ap (λ (x : ℕ). bit_and x mask)
+    (read_low access memory at (bit_or value mask) ∙ or_mod value mask (bits access) ∙ ap (bit_or (value % 2 ^ bits access)) (mod-eq_of_lt small))
+    ∙ and_or_self mask (value % 2 ^ bits access)

@@ -7,5 +7,6 @@ pub mod Readers
 pub mod Setups
 pub mod Tables
 pub mod Several
+pub mod Moves
 pub mod Shared
 pub mod Boot

@@ -1,5 +1,5 @@
 -- The buffers of a source's blocks.
-use Rattle.std.specs.Prelude.{◌≡◌, ℕ, ◌+◌, ◌^◌, ◌<◌, ◌≤◌, List, Vec, length, map, All, vec_len, vec_capacity}
+use Rattle.std.specs.Prelude.{◌≡◌, ℕ, ◌+◌, ◌≤◌, List, Vec, length, map, All, vec_len, vec_capacity}
 use Rattle.std.specs.VecDeque.{deque_len, deque_capacity}
 use Rattle.std.specs.declared.collections.VecDeque.{VecDeque}
 use Rattle.std.specs.declared.alloc.Global.{Global}
@@ -14,7 +14,8 @@ IsWide len buffer = len ≤ vec_capacity buffer
 pub record HasRoom (len places : ℕ) (queue : VecDeque (Vec ℕ Global) Global) (spare : Vec (Vec ℕ Global) Global) : Type 0 where
   pub count : deque_len queue + vec_len spare ≡ places
   pub counted : length queue.items ≡ deque_len queue
-  pub few : places < 2 ^ 32
+  pub few : places ≤ 65536
+  pub short : len ≤ 65536
   pub queue_room : places ≤ deque_capacity queue
   pub spare_room : places ≤ vec_capacity spare
   pub queue_wide : All (IsWide len) queue.items

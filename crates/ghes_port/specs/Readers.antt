@@ -1,5 +1,5 @@
 -- A source whose accesses are made on a memory, and a guest that keeps to the reader's side.
-use Rattle.std.specs.Prelude.{◌≡◌, ◌⊎◌, ℕ, ◌+◌, ◌/◌, ◌^◌, ◌≤◌, ◌==◌, if◌then◌else◌, List, [], ◌∷◌, ◌++◌, length, take, Option, Some, None, Ok, bit_and, bit_or}
+use Rattle.std.specs.Prelude.{◌≡◌, ◌⊎◌, ℕ, ◌+◌, ◌/◌, ◌^◌, ◌<◌, ◌≤◌, ◌==◌, if◌then◌else◌, List, [], ◌∷◌, ◌++◌, length, take, Option, Some, None, Ok, bit_and, bit_or}
 use Rattle.base_model.specs.Bytes.{little, spelled}
 use Rattle.ghes_block.specs.Reading.{checked}
 use Rattle.ghes_port.specs.declared.maps.SourceMap.{SourceMap}
@@ -161,6 +161,10 @@ IsBusy Looks = ⊥
 IsBusy (Copies copied) = Unit {0}
 IsBusy Owes = Unit {0}
 IsBusy (Answers read) = Unit {0}
+
+-- the guest has taken the block that is waited for and acknowledged it, and looks for the next one
+abbrev pub HasAnswered : World → Type 0
+HasAnswered w = (w.source.stage ≡ Await) × (w.reader ≡ Looks) × (length w.submitted < length w.taken + length w.source.queue)
 
 -- one notification for each block that was given back, and one for that which is waited for
 abbrev pub waited_for : Stage → ℕ

@@ -63,8 +63,8 @@ impl Model for BootRegion {
         × IsRoomy b.len b.block };
 }
 
-/// Whether a region may not lie there.
-fn is_misplaced(at: u64, len: u32) -> bool
+/// Whether no region of `len` bytes may lie at an address: it is 0 or no multiple of 4, there are fewer than 20 bytes, or they end past 2^64 - 1.
+pub fn is_misplaced(at: u64, len: u32) -> bool
     ensures { result ≡ is_misplaced at len }
 {
     at == 0 || at % 4 != 0 || len < 20 || u128::from(at) + u128::from(len) > u128::from(u64::MAX)

@@ -46,3 +46,7 @@ pub enum SubmitError {
     /// As many blocks wait as the source has places for.
     Full,
 }
+
+/// The blocks of a source don't let it be at a stage: there is none, the piece begins past the oldest one, or there is no acknowledge register.
+#[derive(Clone, Copy, Debug, PartialEq, Eq)]
+pub struct NotReached;

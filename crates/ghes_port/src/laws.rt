@@ -1,12 +1,14 @@
 // The laws: the functions do nothing, and their clauses are the laws.
-ghost use Rattle.std.specs.Prelude.{◌≡◌, ◌≢◌, ℕ, List, [], Some, None, All, false, slice_get, map};
+ghost use Rattle.std.specs.Prelude.{◌≡◌, ◌≢◌, ℕ, List, [], Some, None, All, false, slice_get, map, drop};
 ghost use Rattle.ghes_port.specs.declared.setups.Setup.{Setup as AnySetup};
+ghost use Rattle.ghes_port.specs.declared.stages.Stage.TheVariants.{Fill};
 ghost use Rattle.ghes_port.specs.declared.stages.Unacknowledged.{Unacknowledged};
-ghost use Rattle.ghes_port.specs.Machine.{SourceState, told};
+ghost use Rattle.ghes_port.specs.Machine.{SourceState, told, after};
 ghost use Rattle.ghes_port.specs.Sound.{IsSource};
 ghost use Rattle.ghes_port.specs.Setups.{begun, setups_fault, maps_meet};
+ghost use Rattle.ghes_port.specs.Moves.{IsMoved};
 ghost use Rattle.ghes_port.specs.Memories.{bytes_from};
-ghost use Rattle.ghes_port.specs.Readers.{World, IsFirst, Leads, IsPrefix, IsNotified, IsBusy, IsApart, restarted, SameParts, IsOffParts, memory_after};
+ghost use Rattle.ghes_port.specs.Readers.{World, IsFirst, Leads, IsPrefix, IsNotified, IsBusy, HasAnswered, IsRead, IsApart, restarted, SameParts, IsOffParts, memory_after};
 ghost use Rattle.ghes_block.specs.Region.{IsListOf};
 ghost use Rattle.ghes_port.specs.Boot.{BootWorld, BootLeads, IsBootFirst, IsCleared, MayBeLeft};
 ghost use Rattle.ghes_port.specs.Shared.{Shared, Side, Passes, AreFirst, IsAlone};
@@ -27,11 +29,25 @@ pub fn each_block_is_notified_once()
     ensures { (first last : World) → IsFirst first → Leads first last → IsNotified last }
 {}
 
+/// A guest that took the block which is waited for, and acknowledged it, is seen at the next look, whatever happened since.
+pub fn an_acknowledgement_is_seen()
+    ensures { (first last : World) (value : ℕ) → IsFirst first → Leads first last → HasAnswered last
+        → IsRead (told last.source) last.memory value
+        → after last.source value ≡ record last.source { stage = Fill 0; queue = drop 1 last.source.queue } }
+{}
+
 /// Whatever a guest did and whatever its memory holds: when it starts again the source is as at first, so the guest then takes the first of the
 /// blocks that were kept and of those submitted since.
 pub fn a_reset_is_a_beginning()
     ensures { (blocks : Unacknowledged) (source : SourceState) (memory : ℕ → ℕ) → IsSource source → IsApart source.map
         → IsFirst (restarted blocks source memory) }
+{}
+
+/// A source that is moved, within a block too, goes on as if it stood where it was: it is begun elsewhere by the same setup, given the blocks that
+/// are not acknowledged, and put at its stage. What happens before and after is one run, so all laws hold over it.
+pub fn a_moved_source_goes_on()
+    ensures { (setup : AnySetup) (first between last : World) (moved : SourceState) → IsMoved setup between.source moved
+        → Leads first between → Leads (record between { source = moved }) last → Leads first last }
 {}
 
 /// An access writes inside the source's parts alone, whatever its guest did: bytes off them are as before.

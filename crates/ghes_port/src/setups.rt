@@ -1,5 +1,5 @@
 // Whether a source may be served by itself.
-ghost use Rattle.std.specs.Prelude.{◌≡◌, ◌<◌, length, IfOk, MatchResult, Some, None};
+ghost use Rattle.std.specs.Prelude.{◌≡◌, ◌<◌, ◌≤◌, length, IfOk, OnOk, MatchResult, Some, None};
 ghost use Rattle.ghes_port.specs.Sound.{IsPlaced};
 ghost use Rattle.ghes_port.specs.Setups.{map_of, is_notification, structure_fault, size_fault, setup_fault};
 
@@ -43,8 +43,10 @@ fn check_structure(index: u32, source: &Ghes) -> Result<(), OpenError>
 }
 
 fn check_sizes(index: u32, setup: &Setup) -> Result<(), OpenError>
-    ensures { MatchResult result (λ _. size_fault index setup.now ≡ None)
+    ensures exact { MatchResult result (λ _. size_fault index setup.now ≡ None)
         (λ error. size_fault index setup.now ≡ Some error) }
+    ensures short { OnOk result (setup.now.source.block_len ≤ 65536) }
+    ensures few { OnOk result (setup.now.places ≤ 65536) }
 {
     if setup.source.block_len < 20 || setup.source.block_len > 65536 {
         return Err(OpenError::Length { index });
@@ -61,6 +63,8 @@ pub(crate) fn check_setup(index: u32, setup: &Setup) -> Result<SourceMap, OpenEr
         (λ error. setup_fault index setup.now ≡ Some error) }
     ensures found { IfOk result (λ map. map ≡ map_of setup.now) }
     ensures placed { IfOk result (λ map. IsPlaced map) }
+    ensures short { IfOk result (λ map. map.len ≤ 65536) }
+    ensures few { OnOk result (setup.now.places ≤ 65536) }
 {
     check_structure(index, &setup.source)?;
     check_sizes(index, setup)?;

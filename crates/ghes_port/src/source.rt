@@ -1,13 +1,13 @@
 // The firmware's side of one source.
-ghost use Rattle.std.specs.Prelude.{◌≡◌, [], ℕ, List, ◌≤◌, length, drop, IfOk, OnOk, OnErr, MatchResult, MatchBool, Some, None, All, vec_len, vec_capacity};
+ghost use Rattle.std.specs.Prelude.{◌≡◌, [], ℕ, List, ◌≤◌, length, drop, IfOk, OnOk, OnErr, MatchResult, MatchBool, MatchOption, IfSome, slice_get, ◌<◌, Some, None, All, vec_len, vec_capacity};
 ghost use Rattle.ghes_port.specs.Machine.{told, IsTold, after, outcome_at, refusal, submitted, reset, IsGood};
-ghost use Rattle.ghes_port.specs.Sound.{IsPlaced, HasBlock};
+ghost use Rattle.ghes_port.specs.Sound.{IsPlaced, IsReached, IsSource, HasBlock};
 ghost use Rattle.ghes_port.specs.Setups.{pair_fault};
 ghost use Rattle.ghes_port.specs.Queues.{IsWide};
 ghost use Rattle.ghes_port.specs.declared.stages.Stage.{Stage as AnyStage};
 
 use crate::accesses::{Access, Outcome};
-use crate::errors::{OpenError, SubmitError};
+use crate::errors::{NotReached, OpenError, SubmitError};
 use crate::maps::SourceMap;
 use crate::overlaps::maps_meet;
 use crate::stages::{Stage, Unacknowledged};
@@ -64,7 +64,9 @@ impl Source {
         map: SourceMap,
         places: u32,
     ) -> Result<Source, OutOfMemory>
-        requires { IsPlaced map }
+        requires placed { IsPlaced map }
+        requires short { map.len ≤ 65536 }
+        requires few { places ≤ 65536 }
         ensures { IfOk result (λ source. source ≡
             record { id = id; map = map; stage = Stage.Hide; queue = []; places = places }) }
     {
@@ -163,6 +165,89 @@ impl Source {
                 self.stage = next_stage(&self.map, stage, value);
                 Outcome::Done
             }
+        }
+    }
+
+    /// Its identifier.
+    pub fn id(&self) -> u16
+        ensures { result ≡ self.now.id }
+    {
+        self.id
+    }
+
+    /// Where its two sides meet.
+    pub fn map(&self) -> SourceMap
+        ensures map { result ≡ self.now.map }
+        ensures short { result.len ≤ 65536 }
+    {
+        self.map
+    }
+
+    /// What it does next.
+    pub fn stage(&self) -> Stage
+        ensures stage { result ≡ self.now.stage }
+        ensures is { IsSource self.now }
+    {
+        self.stage
+    }
+
+    /// How many blocks may wait.
+    pub fn places(&self) -> u32
+        ensures places { result ≡ self.now.places }
+        ensures few { result ≤ 65536 }
+    {
+        self.places
+    }
+
+    /// How many blocks are not acknowledged.
+    pub fn count(&self) -> u32
+        ensures count { result ≡ length self.now.queue }
+        ensures few { result ≤ self.now.places }
+    {
+        self.queue.len() as u32
+    }
+
+    /// The block with this number, of those that are not acknowledged. The oldest one is 0.
+    pub fn block(&self, index: u32) -> Option<&[u8]>
+        ensures block { MatchOption result (length self.now.queue ≤ index)
+            (λ block. slice_get self.now.queue index ≡ Some block.now) }
+        ensures small { IfSome result (λ block. (index < 65536) × (length block.now ≤ 65536)) }
+    {
+        match self.queue.get(index as usize) {
+            Some(block) => Some(block.as_slice()),
+            None => None,
+        }
+    }
+
+    /// Goes on with its blocks from a stage, if these let it be there.
+    pub fn go_on(&mut self, stage: Stage) -> Result<(), NotReached>
+        ensures { MatchResult result (λ _. IsReached self.old.map self.old.queue stage
+            × (self.new ≡ record self.old { stage = stage }))
+            (λ _. (IsReached self.old.map self.old.queue stage → ⊥) × (self.new ≡ self.old)) }
+    {
+        if !self.may_be_at(stage) {
+            return Err(NotReached);
+        }
+        self.stage = stage;
+        Ok(())
+    }
+
+    /// Whether its blocks let it be at a stage.
+    fn may_be_at(&self, stage: Stage) -> bool
+        ensures { MatchBool result (IsReached self.now.map self.now.queue stage)
+            (IsReached self.now.map self.now.queue stage → ⊥) }
+    {
+        match stage {
+            Stage::Hide | Stage::TellAddress => true,
+            Stage::ReadFirst | Stage::SetAck { read: _ } => self.map.ack.is_some(),
+            Stage::Fill { piece } => match self.queue.front() {
+                Some(block) => 4 + 64 * (piece as usize) < block.len(),
+                None => piece == 0,
+            },
+            Stage::ReadAck | Stage::ClearAck { read: _ } => {
+                self.map.ack.is_some() && !self.queue.is_empty()
+            }
+            Stage::Show | Stage::Notify | Stage::Await => !self.queue.is_empty(),
         }
     }
 

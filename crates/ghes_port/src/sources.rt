@@ -1,17 +1,18 @@
 // Several sources over one memory.
-ghost use Rattle.std.specs.Prelude.{◌≡◌, ◌⊎◌, [], ◌<◌, ◌≤◌, length, map, IfOk, OnOk, OnErr, IfErr, MatchResult, Some, None};
+ghost use Rattle.std.specs.Prelude.{◌≡◌, ◌⊎◌, [], ◌<◌, ◌≤◌, length, map, IfOk, OnOk, OnErr, IfErr, MatchResult, Some, None, slice_get, vec_len};
 ghost use Rattle.hest_sources.specs.Tables.{IsHest};
 ghost use Rattle.ghes_port.specs.Machine.{told, IsTold, after, outcome_at, refusal, submitted, reset, IsGood};
+ghost use Rattle.ghes_port.specs.Sound.{IsReached};
 ghost use Rattle.ghes_port.specs.Setups.{begun, earlier_fault, setups_fault, open_fault, IsRefusal};
 ghost use Rattle.ghes_port.specs.Tables.{stated};
 ghost use Rattle.ghes_port.specs.Several.{IsAt, Becomes, IsSoundAfter, RefusesAfter, RefusesAll};
 
 use crate::accesses::{Access, Outcome};
-use crate::errors::{OpenError, SubmitError};
+use crate::errors::{NotReached, OpenError, SubmitError};
 use crate::maps::SourceMap;
 use crate::setups::{Setup, check_setup};
 use crate::source::Source;
-use crate::stages::Unacknowledged;
+use crate::stages::{Stage, Unacknowledged};
 use crate::table::hest;
 use std::alloc::Global;
 use std::marker::Model;
@@ -24,11 +25,14 @@ pub struct Sources {
 }
 
 impl Model for Sources {
+    ghost use Rattle.std.specs.Prelude.{◌≤◌, vec_len};
     ghost use Rattle.ghes_port.specs.Several.{SourcesState};
 
     ghost Value = { SourcesState };
 
     ghost view = { λ s. record { list = s.list.items; table = s.table.items } };
+
+    ghost invariant = { λ s. vec_len s.list ≤ 64 };
 }
 
 impl Sources {
@@ -53,7 +57,8 @@ impl Sources {
 
     /// How many there are.
     pub fn count(&self) -> usize
-        ensures { result ≡ length self.now.list }
+        ensures count { result ≡ length self.now.list }
+        ensures few { result ≤ 64 }
     {
         self.list.len()
     }
@@ -96,6 +101,25 @@ impl Sources {
         self.list[index].done(value)
     }
 
+    /// The source with this index.
+    pub fn source(&self, index: usize) -> &Source
+        requires { index < length self.now.list }
+        ensures { slice_get self.now.list index ≡ Some result.now }
+    {
+        &self.list[index]
+    }
+
+    /// Goes on with the blocks of a source from a stage, if these let it be there.
+    pub fn go_on(&mut self, index: usize, stage: Stage) -> Result<(), NotReached>
+        requires { index < length self.old.list }
+        ensures reached { OnOk result (IsAt index self.old.list (λ old. IsReached old.map old.queue stage)) }
+        ensures stage { OnOk result (Becomes index self.old self.new (λ old. record old { stage = stage })) }
+        ensures refused { OnErr result (IsAt index self.old.list (λ old. IsReached old.map old.queue stage → ⊥)) }
+        ensures same { OnErr result (self.new ≡ self.old) }
+    {
+        self.list[index].go_on(stage)
+    }
+
     /// A guest starts again: a source is before its first access.
     pub fn reset(&mut self, index: usize, blocks: Unacknowledged)
         requires { index < length self.old.list }
@@ -109,6 +133,7 @@ impl Sources {
 fn begin(alloc: Global, setups: &[Setup]) -> Result<Vec<Source>, OpenError>
     requires { length setups.now ≤ 64 }
     ensures list { IfOk result (λ list. list.items ≡ map begun setups.now) }
+    ensures few { IfOk result (λ list. vec_len list ≤ 64) }
     ensures sound { OnOk result (setups_fault [] 0 setups.now ≡ None) }
     ensures refused { IfErr result (RefusesAll setups.now) }
 {

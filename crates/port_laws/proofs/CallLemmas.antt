@@ -1,5 +1,5 @@
 -- One call: what it makes of the flash and of the records.
-use Rattle.std.proofs.Common.{◌≡◌, ◌∙◌, ◌⊎◌, ℕ, ◌+◌, ◌^◌, ◌%◌, ◌==◌, Bool, true, false, if◌then◌else◌, List, length, Option, Some, None, Result, Ok, Err, inl, inr, refl, sym, ap, subst}
+use Rattle.std.proofs.Common.{◌≡◌, ◌∙◌, ◌⊎◌, ℕ, ◌^◌, ◌%◌, ◌==◌, Bool, true, false, if◌then◌else◌, List, length, Option, Some, None, Result, Ok, Err, inl, inr, refl, sym, ap, subst}
 use Rattle.base_model.specs.Faults.{Rose}
 use Rattle.base_model.specs.Flash.{Told, Leaves}
 use Rattle.base_model.specs.Layout.{Layout}
@@ -14,7 +14,8 @@ use Rattle.erst_device.specs.Effects.{Effect, makes_change, made_by_action}
 use Rattle.erst_port.specs.declared.errors.BadAddresses.{BadAddresses}
 use Rattle.erst_port.specs.declared.errors.PortError.{PortError}
 use Rattle.erst_port.specs.declared.windows.Addresses.{Addresses}
-use Rattle.erst_port.specs.Changes.{NotesMade}
+use Rattle.erst_port.specs.Changes.{NotesMade, noted}
+use Rattle.erst_port.specs.declared.parts.Made.{Made}
 use Rattle.erst_port.specs.Moves.{Moves}
 use Rattle.erst_port.specs.declared.windows.Location.{Location}
 use Rattle.erst_port.specs.declared.windows.Location.TheVariants.{Action, Value, LowHalf, HighHalf, Bytes, Nowhere}
@@ -153,16 +154,16 @@ by_move old addresses answer new (inl refused) = (by_port old new old refused.2 
 by_move old addresses answer new (inr moved) = (by_port old new _ moved.2 refl refl, ap (λ (p : PortState). p.made) moved.2)
 
 -- one more change is made
-pub noted_made : (old new : PortState) → NotesMade old (Ok tt) new → new ≡ record old { made = old.made + 1 }
+pub noted_made : (old new : PortState) → NotesMade old (Ok tt) new → new ≡ noted old
 noted_made old new (inl none) = absurd (let other : Ok tt ≡ Err (record {}) = none.1 in cc)
-noted_made old new (inr noted) = noted.2
+noted_made old new (inr made) = made.2
 
--- how many changes the medium made after a call
-abbrev pub made_after : Call → ℕ → ℕ
-made_after (Makes kind at bytes) made = made + 1
-made_after call made = made
+-- what the medium has made after a call
+abbrev pub made_after : PortState → Call → Made
+made_after old (Makes kind at bytes) = (noted old).made
+made_after old call = old.made
 
-pub one_call : (old : PortState) (call : Call) (new : PortState) → Does old call new → IsOneCall old (completed old call) new × (new.made ≡ made_after call old.made)
+pub one_call : (old : PortState) (call : Call) (new : PortState) → Does old call new → IsOneCall old (completed old call) new × (new.made ≡ made_after old call)
 one_call old (Writes window offset width value answer) new h = by_write (location_of window (length old.range) offset width) old new width value answer h
 one_call old (Puts offset bytes answer) new h =
     let location = range_location (length old.range) offset (length bytes) in
@@ -171,5 +172,5 @@ one_call old (Restarts answer) new h = by_reset old new answer h
 one_call old (MovesTo addresses answer) new h = by_move old addresses answer new h
 one_call old Looks new h = (by_port old new old h refl refl, ap (λ (p : PortState). p.made) h)
 one_call old (Makes kind at bytes) new h =
-    let noted = noted_made old new h.1 in
-    (by_port old new _ noted refl refl, ap (λ (p : PortState). p.made) noted)
+    let made = noted_made old new h.1 in
+    (by_port old new _ made refl refl, ap (λ (p : PortState). p.made) made)

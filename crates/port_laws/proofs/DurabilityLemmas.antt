@@ -2,7 +2,7 @@
 use Rattle.std.proofs.Common.{◌≡◌, ◌∙◌, ℕ, List, drop, sym, ap, subst, arith}
 use Rattle.base_model.specs.Flash.{CrashImage}
 use Rattle.base_model.specs.Layout.{Layout}
-use Rattle.base_model.proofs.CrashLemmas.{image_at-now, Leaves-exit}
+use Rattle.base_model.proofs.CrashLemmas.{Leaves-exit}
 use Rattle.flash_model.specs.declared.geometry.Geometry.{Geometry}
 use Rattle.flash_model.specs.Layouts.{layout_of}
 use Rattle.erst_port.specs.States.{first_state}
@@ -11,6 +11,7 @@ use Rattle.record_store.specs.Store.{records_of as records_in}
 use Rattle.apei_space.specs.Accesses.{Trail}
 use Rattle.image_survey.specs.Headers.{IsMedium}
 use Rattle.erst_port.specs.PortState.{flash_of, IsMade}
+use Rattle.erst_port.proofs.PartLemmas.{held_now}
 use Rattle.port_laws.specs.Beginnings.{Begins}
 use Rattle.port_laws.specs.Calls.{Embedded, Happens, IsInStep, IsCounted}
 use Rattle.port_laws.specs.Commands.{records_of}
@@ -33,7 +34,7 @@ pub holds_all : (origin : ℕ) (geometry : Geometry) (first : Embedded) (calls :
 holds_all origin geometry first calls last begins is counted made =
     let step = keeps_step origin geometry first calls last begins is in
     let origin_is = last_origin origin geometry first calls last begins is in
-    ap (λ (k : ℕ). drop k last.medium) (sym origin_is) ∙ step.image ∙ image_at-now (told_of last.port) last.port.made (omega (arith, counted, made))
+    ap (λ (k : ℕ). drop k last.medium) (sym origin_is) ∙ step.image ∙ held_now (told_of last.port) last.port.made (omega (arith, counted, made))
 
 pub keeps_front : (origin : ℕ) (geometry : Geometry) (first : Embedded) (calls : Calls) (last : Embedded) → Begins origin geometry first → Trail Happens first calls last
     → SameFront origin first.medium last.medium
@@ -41,9 +42,9 @@ keeps_front origin geometry first calls last begins is =
     subst (λ (k : ℕ). SameFront k first.medium last.medium) begins.origin_is (steps_on first calls last is (first_step origin geometry first begins)).front
 
 pub loss_is : (origin : ℕ) (geometry : Geometry) (first : Embedded) (calls : Calls) (last : Embedded) (left : List ℕ) → Begins origin geometry first → Trail Happens first calls last
-    → IsLeft last left → CrashImage (flash_of last.port).told last.port.made (drop origin left)
+    → IsLeft last left → CrashImage (flash_of last.port).told last.port.made.changes (drop origin left)
 loss_is origin geometry first calls last left begins is lost =
-    subst (λ (k : ℕ). CrashImage (flash_of last.port).told last.port.made (drop k left)) (last_origin origin geometry first calls last begins is)
+    subst (λ (k : ℕ). CrashImage (flash_of last.port).told last.port.made.changes (drop k left)) (last_origin origin geometry first calls last begins is)
     (left_is last left (keeps_step origin geometry first calls last begins is) lost)
 
 pub loss_front : (origin : ℕ) (geometry : Geometry) (first : Embedded) (calls : Calls) (last : Embedded) (left : List ℕ) → Begins origin geometry first → Trail Happens first calls last

@@ -21,14 +21,14 @@ use Rattle.port_laws.proofs.CallLemmas.{noted_made, stored_store}
 by_store : (old new : PortState) → new.device.store ≡ old.device.store → (flash_of old).faults ≤ (flash_of new).faults
 by_store old new store = let same = ap (λ (s : StoreView). s.flash.faults) store in omega (arith, same)
 
-by_port : (old new same : PortState) → new ≡ same → same.device.store ≡ old.device.store → (flash_of old).faults ≤ (flash_of new).faults
+pub by_port : (old new same : PortState) → new ≡ same → same.device.store ≡ old.device.store → (flash_of old).faults ≤ (flash_of new).faults
 by_port old new same is store = by_store old new (ap (λ (p : PortState). p.device.store) is ∙ store)
 
 by_action : (old new : PortState) (code : ℕ) (answer : Result (Unit {0}) PortError) → ActionWritten old code answer new → (flash_of old).faults ≤ (flash_of new).faults
 by_action old new code answer (inl refused) = by_port old new old refused.2 refl
 by_action old new code answer (inr taken) = taken.2.acted.effect.never_falls
 
-by_write : (location : Location) (old new : PortState) (width : Width) (value : ℕ) (answer : Result (Unit {0}) PortError) → NumberWritten location old width value answer new
+pub by_write : (location : Location) (old new : PortState) (width : Width) (value : ℕ) (answer : Result (Unit {0}) PortError) → NumberWritten location old width value answer new
     → (flash_of old).faults ≤ (flash_of new).faults
 by_write Action old new width value answer h = by_action old new (value % 2 ^ 32) answer h
 by_write Value old new width value answer h = by_port old new _ h.1 refl
@@ -37,7 +37,7 @@ by_write HighHalf old new width value answer h = by_port old new _ h.1 refl
 by_write (Bytes start) old new width value answer h = by_port old new _ h.1 refl
 by_write Nowhere old new width value answer h = by_port old new _ h.1 refl
 
-by_reset : (old new : PortState) (answer : Result (Unit {0}) PortError) → Resets old answer new → (flash_of old).faults ≤ (flash_of new).faults
+pub by_reset : (old new : PortState) (answer : Result (Unit {0}) PortError) → Resets old answer new → (flash_of old).faults ≤ (flash_of new).faults
 by_reset old new answer (inl refused) = by_port old new old refused.2 refl
 by_reset old new answer (inr done) = faults_rise (flash_of old).faults (flash_of new).faults done.1.0 done.1.2.leaves.cause
 

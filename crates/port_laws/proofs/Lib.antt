@@ -20,7 +20,9 @@ pub mod TellLemmas
 pub mod RoundLemmas
 pub mod AttachLemmas
 pub mod ListingLemmas
+mod ListedLemmas
 pub mod OtherLemmas
 pub mod CommandLawLemmas
 pub mod Bare
 pub mod PortLemmas
+pub mod GoingOnLemmas

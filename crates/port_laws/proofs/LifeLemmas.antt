@@ -13,10 +13,11 @@ use Rattle.erst_port.specs.PortState.{PortState}
 use Rattle.port_laws.specs.Beginnings.{Begins}
 use Rattle.port_laws.specs.Calls.{Embedded}
 use Rattle.port_laws.specs.Commands.{records_of}
-use Rattle.port_laws.specs.Lives.{Starts, Opened, Loaded, Run, IsRun, IsLife, IsKeptOf, AreKept}
+use Rattle.port_laws.specs.Lives.{Starts, Opened, Loaded, Failed, Run, IsRun, IsLife, IsKeptOf, AreKept}
 use Rattle.port_laws.specs.Losses.{IsLeft, SameFront}
 use Rattle.port_laws.specs.Prefixes.{commands_in, played, ShowsFirst}
 use Rattle.port_laws.proofs.DurabilityLemmas.{found_are, loss_front, loss_shows}
+use Rattle.port_laws.proofs.FailureLemmas.{failure_begins}
 use Rattle.port_laws.proofs.FaultLemmas.{no_fault}
 use Rattle.port_laws.proofs.PlayLemmas.{shows_first}
 use Rattle.port_laws.proofs.Sectors.{medium_stays}
@@ -42,6 +43,8 @@ loaded_begins origin geometry saved first room loaded =
 starts_begins : (origin : ℕ) (geometry : Geometry) (first : Embedded) → origin ≤ length first.medium → Starts origin geometry first → Begins origin geometry first
 starts_begins origin geometry first room (Opened addresses opened) = opened_begins origin geometry addresses first room opened
 starts_begins origin geometry first room (Loaded saved loaded) = loaded_begins origin geometry saved first room loaded
+starts_begins origin geometry first room (Failed old stands divided fails) =
+    subst (λ (k : ℕ). Begins k geometry first) stands (failure_begins geometry old first divided (omega (arith, room, stands)) fails)
 
 pub found : (origin : ℕ) (geometry : Geometry) (next : Embedded) → origin ≤ length next.medium → Starts origin geometry next
     → records_of next.port ≡ records_in (layout_of geometry) (drop origin next.medium)

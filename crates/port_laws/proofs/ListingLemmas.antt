@@ -210,7 +210,7 @@ all_met stored from ids again walks has next other some here = elim (has_or_not 
 -- The port's answers
 
 -- one that was asked leaves the records
-kept : (first last : MachineState) → HasAsked first last → records_of last ≡ records_of first
+pub kept : (first last : MachineState) → HasAsked first last → records_of last ≡ records_of first
 kept first last asked = kept_map first.device.store last.device.store asked.looked.kept asked.looked.equivalent
 
 record IsNext (first last : MachineState) (id : ℕ) : Type 0 where
@@ -250,7 +250,7 @@ made_of {T = T} Made budget first last value result left is asks = (elim asks as
 ]) is
 
 -- an identifier that a record has is not 0
-not_zero : (store : StoreView) (id : ℕ) → IsSome (get (stored store) id) → 0 < id
+pub not_zero : (store : StoreView) (id : ℕ) → IsSome (get (stored store) id) → 0 < id
 not_zero store id some = by_kept (get (stored store) id) refl some
   where
     by_kept : (kept : Option (List ℕ × ℕ)) → get (stored store) id ≡ kept → IsSome kept → 0 < id
@@ -260,7 +260,7 @@ not_zero store id some = by_kept (get (stored store) id) refl some
         grind (arith, allowed)
 
 module _ (addresses : Addresses) where
-  round_of : (first : SpaceState) (told : Option ℕ) (run : CallFrom first (Option ℕ)) → IsNextCall (port_table addresses) run → run.answer ≡ Ok told → NextRound (machine_of first) (machine_of run.last) run.answer
+  pub round_of : (first : SpaceState) (told : Option ℕ) (run : CallFrom first (Option ℕ)) → IsNextCall (port_table addresses) run → run.answer ≡ Ok told → NextRound (machine_of first) (machine_of run.last) run.answer
   round_of first told run asks is =
       made_of (NextRound (machine_of first) (machine_of run.last)) run.budget (machine_of first) (machine_of run.last) told run.answer run.left is (next_round addresses run.budget first run.answer run.left run.last asks)
 

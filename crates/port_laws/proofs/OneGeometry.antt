@@ -1,5 +1,5 @@
 -- A medium has one geometry: a port that was opened on it is one of that geometry.
-use Rattle.std.proofs.Common.{◌≡◌, ◌∙◌, ℕ, ◌-◌, List, drop, sym, ap, subst}
+use Rattle.std.proofs.Common.{◌≡◌, ◌≢◌, ◌∙◌, ℕ, ◌-◌, List, drop, Ok, sym, ap, subst, arith}
 use Rattle.base_model.specs.Bytes.{zeros}
 use Rattle.base_model.specs.Flash.{Leaves}
 use Rattle.base_model.specs.Layout.{Layout, reach_of}
@@ -11,12 +11,13 @@ use Rattle.image_survey.specs.Headers.{IsMedium}
 use Rattle.image_survey.proofs.HeaderLemmas.{has_numbers}
 use Rattle.erst_port.specs.declared.windows.Addresses.{Addresses}
 use Rattle.erst_port.specs.States.{first_state}
+use Rattle.erst_port.specs.Failures.{Fails}
 use Rattle.erst_port.specs.Openings.{OpenedAs, OpenedOn}
 use Rattle.erst_port.specs.PortState.{PortState, flash_of}
 use Rattle.erst_port.specs.Loaded.{LoadedBy}
 use Rattle.erst_port.proofs.SavedLemmas.{same_layout}
 use Rattle.port_laws.specs.Calls.{Embedded}
-use Rattle.port_laws.specs.Lives.{Starts, Opened, Loaded}
+use Rattle.port_laws.specs.Lives.{Starts, Opened, Loaded, Failed}
 
 module _ (one other : Geometry) (medium : List ℕ) (is_one : IsMedium one medium) (is_other : IsMedium other medium) where
   sector : other.sector ≡ one.sector
@@ -70,3 +71,11 @@ loaded_starts geometry saved first medium loaded =
       is_opened = opened_as geometry opened.0 first.medium medium opened.1 _ loaded.opened opened.2;
       resumes = loaded.resumes;
     })
+
+pub failed_starts : (geometry : Geometry) (old : PortState) (first : Embedded) → IsMedium geometry first.medium → old.origin ≡ geometry.sector
+    → Fails first.medium old (Ok tt) first.port → Starts geometry.sector geometry first
+failed_starts geometry old first medium stands fails =
+    let least = geometry.least_sector in
+    let headed : old.origin ≢ 0 = λ none. omega (arith, stands, least, none) in
+    let own = fails.1.1 in
+    Failed old stands (sym (layout geometry fails.1.0 first.medium medium (own.headed headed)) ∙ own.divided) fails

@@ -8,6 +8,7 @@ use Rattle.apei_space.specs.Accesses.{Reaches, Stays, Goes as then}
 use Rattle.apei_space.specs.Windows.{address_of}
 use Rattle.erst_device.specs.DeviceState.{DeviceState}
 use Rattle.erst_port.specs.declared.errors.PortError.{PortError}
+use Rattle.erst_port.specs.declared.parts.Made.{Made}
 use Rattle.erst_port.specs.declared.windows.Addresses.{Addresses}
 use Rattle.erst_port.specs.declared.windows.Location.{Location}
 use Rattle.erst_port.specs.declared.windows.Location.TheVariants.{Action, Value, LowHalf, HighHalf, Bytes, Nowhere}
@@ -16,11 +17,11 @@ use Rattle.erst_port.specs.PortState.{PortState, IsPort}
 use Rattle.erst_port.specs.Accesses.{ActionWritten, NumberWritten, bytes_stored}
 use Rattle.port_laws.specs.PortSpaces.{SpaceState, place_in, WrittenAt, bytes_location, bytes_stored_at, Does, caught_up, Goes}
 
--- a port with another device, other bytes in its log range and another count of changes made
+-- a port with another device, other bytes in its log range and another count of what is made
 abbrev pub IsBeside : PortState → PortState → Type 0
 IsBeside first last = last ≡ record first { device = last.device; range = last.range; made = last.made }
 
-beside_of : (first last : PortState) (device : DeviceState) (range : List ℕ) (made : ℕ) → last ≡ record first { device = device; range = range; made = made } → IsBeside first last
+beside_of : (first last : PortState) (device : DeviceState) (range : List ℕ) (made : Made) → last ≡ record first { device = device; range = range; made = made } → IsBeside first last
 beside_of first last device range made is = subst (IsBeside first) (sym is) refl
 
 same_beside : (first last : PortState) → last ≡ first → IsBeside first last

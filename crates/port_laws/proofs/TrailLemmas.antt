@@ -18,7 +18,9 @@ use Rattle.erst_port.specs.declared.windows.Addresses.{Addresses}
 use Rattle.erst_port.specs.declared.windows.Location.{Location}
 use Rattle.erst_port.specs.declared.windows.Location.TheVariants.{Action}
 use Rattle.erst_port.specs.Places.{location_of}
+use Rattle.erst_port.specs.Parts.{nothing_made}
 use Rattle.erst_port.specs.PortState.{PortState, flash_of, IsMade}
+use Rattle.erst_port.proofs.PartLemmas.{held_whole}
 use Rattle.erst_port.specs.Accesses.{NumberWritten, ActionWritten}
 use Rattle.erst_port.specs.Openings.{OpenedAs}
 use Rattle.port_laws.specs.Calls.{Embedded, Call, Writes, Puts, Restarts, MovesTo, Looks, Makes, Happens, IsInStep}
@@ -136,7 +138,7 @@ taken_is_made location old new width value answer is taken written =
     by_answer (inl refused) = absurd (let other : Err Due ≡ Ok tt = sym refused.0 ∙ taken in cc)
     by_answer (inr done) = done.1
 
-code_is_made : (old : Embedded) (call : Call) (new : Embedded) → Happens old call new → TakesCode old.port call → length (told_of old.port).past ≤ old.port.made
+code_is_made : (old : Embedded) (call : Call) (new : Embedded) → Happens old call new → TakesCode old.port call → length (told_of old.port).past ≤ old.port.made.changes
 code_is_made old (Writes window offset width value answer) new happens takes =
     let made = taken_is_made (location_of window (length old.port.range) offset width) old.port new.port width value answer takes.0 takes.1 happens.does in
     omega (arith, made, happens.counted)
@@ -147,7 +149,7 @@ code_is_made old Looks new happens takes = absurd takes
 code_is_made old (Makes kind at bytes) new happens takes = absurd takes
 
 taken_are_made : (n : ℕ) (first : Embedded) (calls : Calls) (last : Embedded) → Trail Happens first calls last → IsInStep first → IsTaken n first calls
-    → (n ≤ length calls) × (changes_after n first calls ≤ last.port.made)
+    → (n ≤ length calls) × (changes_after n first calls ≤ last.port.made.changes)
 taken_are_made n first [] last is step taken = absurd taken
 taken_are_made zero first (move ∷ rest) last is step taken =
     let made = code_is_made first move.event move.left is.0 taken in
@@ -166,21 +168,22 @@ opened_begins origin geometry addresses first room opened =
 
 pub first_step : (origin : ℕ) (geometry : Geometry) (first : Embedded) → Begins origin geometry first → IsInStep first
 first_step origin geometry first begins = record {
-  behind = omega (arith, begins.made);
+  behind = rw begins.made (omega arith);
+  begun = rw begins.made (λ more. absurd (omega (arith, more)));
   room = omega (arith, begins.room, begins.origin_is);
-  image = rw (begins.origin_is, begins.made) (sym begins.kept.later.image);
+  image = rw (begins.origin_is, begins.made) (sym begins.kept.later.image ∙ sym (held_whole (told_of first.port) nothing_made refl));
 }
 
 -- the records that power lost shows, also in the changes of the opening
 pub lost_shows : (origin : ℕ) (geometry : Geometry) (first : Embedded) (calls : Calls) (last : Embedded) (image : List ℕ)
-    → Begins origin geometry first → Trail Happens first calls last → CrashImage (told_of last.port) last.port.made image
+    → Begins origin geometry first → Trail Happens first calls last → CrashImage (told_of last.port) last.port.made.changes image
     → ShowsPrefix first calls (records_in (layout_of geometry) image)
 lost_shows origin geometry first calls last image begins is crash =
     let layout = begins.layout in
     let step = first_step origin geometry first begins in
-    subst (λ (l : Layout). ShowsPrefix first calls (records_in l image)) layout (elim (cases_lt last.port.made (length (told_of first.port).past)) [
+    subst (λ (l : Layout). ShowsPrefix first calls (records_in l image)) layout (elim (cases_lt last.port.made.changes (length (told_of first.port).past)) [
       | inr after ↦
-          let all = shows first calls last is last.port.made image (omega (arith, after)) crash in
+          let all = shows first calls last is last.port.made.changes image (omega (arith, after)) crash in
           record {
             count = all.count;
             within = all.within;
@@ -188,8 +191,8 @@ lost_shows origin geometry first calls last image begins is crash =
             shown_are = all.shown_are;
           }
       | inl before ↦
-          let mine = CrashImage-earlier (told_of first.port) (told_of last.port) last.port.made image (goes_on first calls last is).later before crash in
-          let kept : records_in (layout_of geometry) image ≡ records_in (layout_of geometry) (drop origin first.medium) = begins.kept.each last.port.made image (omega arith) mine in
+          let mine = CrashImage-earlier (told_of first.port) (told_of last.port) last.port.made.changes image (goes_on first calls last is).later before crash in
+          let kept : records_in (layout_of geometry) image ≡ records_in (layout_of geometry) (drop origin first.medium) = begins.kept.each last.port.made.changes image (omega arith) mine in
           let exit : records_in (layout_of geometry) (told_of first.port).image ≡ records_in (layout_of geometry) (drop origin first.medium) =
           Leaves-exit (first_state (drop origin first.medium) geometry.sector).told (told_of first.port) _ begins.kept in
           record {

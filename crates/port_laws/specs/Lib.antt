@@ -11,3 +11,4 @@ pub mod PortClients
 pub mod Looks
 pub mod Listings
 pub mod Equivalence
+pub mod GoingOn

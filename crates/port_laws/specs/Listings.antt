@@ -5,8 +5,11 @@ use Rattle.record_model.specs.Records.{Stored}
 use Rattle.record_model.specs.RecordMap.{IsNextAbove}
 use Rattle.erst_client.specs.declared.errors.ClientError.{ClientError}
 use Rattle.erst_commands.specs.Runs.{CallFrom, IsNext}
+use Rattle.erst_listing.specs.declared.errors.ListError.{ListError}
+use Rattle.erst_listing.specs.Gathering.{Lists as ListsBy}
+use Rattle.erst_listing.specs.Listing.{questions}
 use Rattle.erst_port.specs.declared.windows.Addresses.{Addresses}
-use Rattle.port_laws.specs.PortSpaces.{SpaceState}
+use Rattle.port_laws.specs.PortSpaces.{SpaceState, Goes}
 use Rattle.port_laws.specs.PortClients.{port_table}
 
 -- the next identifier is asked for again and again, with nothing else in between, and these are told
@@ -49,3 +52,7 @@ IsNotGreater cursor (Err error) = ⊥
 pub data StartsAnew (stored : Stored) : Result (Option ℕ) ClientError → Type 0 where
   IsLeast : (id : ℕ) → IsNextAbove 0 stored (Some id) → StartsAnew stored (Ok (Some id))
   IsEmpty : IsNextAbove 0 stored None → StartsAnew stored (Ok None)
+
+-- a listing of `erst_listing` over a port, whose questions have so many steps
+abbrev pub ListsPort : Addresses → (steps room : ℕ) → SpaceState → Result (Unit {0}) ListError → List ℕ → SpaceState → Type 0
+ListsPort addresses steps room first result ids last = ListsBy (questions (Goes addresses) (port_table addresses).entries steps) room first result ids last

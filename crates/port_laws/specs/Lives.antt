@@ -1,21 +1,25 @@
 -- A medium's life: ports over it, one after another, each over what lost power or a stop left of it.
-use Rattle.std.specs.Prelude.{◌≡◌, ℕ, ◌-◌, ◌^◌, ◌<◌, ◌≤◌, List, [], ◌∷◌, ◌++◌, length, take, drop}
+use Rattle.std.specs.Prelude.{◌≡◌, ℕ, ◌-◌, ◌^◌, ◌<◌, ◌≤◌, List, [], ◌∷◌, ◌++◌, length, take, drop, Ok}
 use Rattle.record_model.specs.RecordMap.{Command}
 use Rattle.flash_model.specs.declared.geometry.Geometry.{Geometry}
+use Rattle.flash_model.specs.Layouts.{layout_of}
 use Rattle.apei_space.specs.Accesses.{Trail}
 use Rattle.erst_port.specs.declared.windows.Addresses.{Addresses}
+use Rattle.erst_port.specs.Failures.{Fails}
 use Rattle.erst_port.specs.LastCount.{FailsLast}
 use Rattle.erst_port.specs.Openings.{OpenedAs}
 use Rattle.erst_port.specs.Loaded.{LoadedBy}
-use Rattle.erst_port.specs.PortState.{flash_of}
+use Rattle.erst_port.specs.PortState.{PortState, flash_of}
 use Rattle.port_laws.specs.Calls.{Embedded, Happens}
 use Rattle.port_laws.specs.Losses.{IsLeft}
 use Rattle.port_laws.specs.Prefixes.{Calls, IsTaken, commands_in}
 
--- a port that was opened over the bytes behind the first ones of its medium, or loaded over them
+-- a port that was opened over the bytes behind the first ones of its medium, or loaded over them; or one that goes on over them, because
+-- the medium failed a change of it
 pub data Starts (origin : ℕ) (geometry : Geometry) (first : Embedded) : Type 0 where
   Opened : (addresses : Addresses) → OpenedAs origin geometry (drop origin first.medium) addresses first.port → Starts origin geometry first
   Loaded : (saved : List ℕ) → LoadedBy (OpenedAs origin geometry (drop origin first.medium)) saved first.port → Starts origin geometry first
+  Failed : (old : PortState) → old.origin ≡ origin → layout_of geometry ≡ old.device.store.layout → Fails first.medium old (Ok tt) first.port → Starts origin geometry first
 
 -- a port, the calls that were made of it, and what they left
 pub record Run : Type 0 where

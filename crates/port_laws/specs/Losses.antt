@@ -5,7 +5,7 @@ use Rattle.erst_port.specs.declared.due.Kind.{Kind}
 use Rattle.erst_port.specs.Changes.{IsDueOn}
 use Rattle.port_laws.specs.Calls.{Embedded}
 
--- the medium as it is, or, while a change is due, whatever differs from it in the range of that change alone
+-- the medium as it is, or, while a change is due, whatever differs from it in the range of the next part of that change alone
 abbrev pub IsLeft : Embedded → List ℕ → Type 0
 IsLeft now left =
     (left ≡ now.medium) ⊎ ((kind : Kind) × (at : ℕ) × (bytes : List ℕ) × IsDueOn now.port kind at bytes × SameOutside at (length bytes) now.medium left)

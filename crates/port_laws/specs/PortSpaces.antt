@@ -17,6 +17,7 @@ use Rattle.erst_port.specs.declared.windows.Location.TheVariants.{Nowhere}
 use Rattle.erst_port.specs.declared.windows.Window.{Window}
 use Rattle.erst_port.specs.declared.windows.Window.TheVariants.{Registers, LogRange}
 use Rattle.erst_port.specs.Places.{registers_size, range_location, location_of}
+use Rattle.erst_port.specs.Parts.{all_made}
 use Rattle.erst_port.specs.PortState.{PortState, IsPort, flash_of}
 use Rattle.erst_port.specs.Accesses.{number_read, NumberWritten, bytes_read, bytes_stored}
 
@@ -82,7 +83,7 @@ Does old (WriteBytes at bytes answer) new =
 
 -- the medium has made every change that was due
 abbrev pub caught_up : SpaceState → SpaceState
-caught_up state = record state { port = record state.port { made = (flash_of state.port).steps } }
+caught_up state = record state { port = record state.port { made = all_made (flash_of state.port).steps } }
 
 -- an access of a port whose windows stand at these addresses. Its caller has the medium make what is due before it passes the access on
 pub record Goes (addresses : Addresses) (old : SpaceState) (call : Call) (new : SpaceState) : Type 0 where

@@ -1,5 +1,6 @@
 // The laws: the functions do nothing, and their clauses are the laws.
-ghost use Rattle.std.specs.Prelude.{◌≡◌, ℕ, ◌+◌, ◌≤◌, ◌<◌, ◌%◌, ◌^◌, List, length, Contains, Option, Some, Result, Ok};
+ghost use Rattle.std.specs.Prelude.{◌≡◌, ℕ, ◌+◌, ◌≤◌, ◌<◌, ◌%◌, ◌^◌, List, length, Contains, IsSome, Option, Some, Result, Ok, Err};
+ghost use Rattle.std.specs.FinMap.{get};
 ghost use Rattle.record_model.specs.RecordMap.{Write, Clear};
 ghost use Rattle.apei_tables.specs.declared.registers.Place.TheVariants.{Memory};
 ghost use Rattle.apei_tables.specs.declared.widths.Width.TheVariants.{B32, B64};
@@ -26,11 +27,15 @@ ghost use Rattle.erst_commands.specs.Writes.{marked, id_of};
 ghost use Rattle.erst_port.specs.declared.windows.Addresses.{Addresses};
 ghost use Rattle.erst_port.specs.PortState.{IsPort};
 ghost use Rattle.erst_port.specs.PortTables.{port_erst};
-ghost use Rattle.port_laws.specs.Listings.{Listing, Rising, AreAll, AreAllAbove, StartsAnew, IsNotGreater};
+ghost use Rattle.erst_listing.specs.declared.errors.ListError.TheVariants.{Full};
+ghost use Rattle.erst_listing.specs.Devices.{AreDistinct};
+ghost use Rattle.port_laws.specs.Listings.{ListsPort, Listing, Rising, AreAll, AreAllAbove, StartsAnew, IsNotGreater};
 ghost use Rattle.port_laws.specs.Looks.{NextRound};
 ghost use Rattle.port_laws.specs.Machines.{machine_of, IsShared, AreShared};
 ghost use Rattle.port_laws.specs.PortClients.{port_table, port_client, IsTheMachines, AttachesPort, MakesRecords};
 ghost use Rattle.port_laws.specs.PortSpaces.{SpaceState, Goes};
+
+use erst_listing::a_listing_has_all;
 
 /// The device and the log range of a port are those of a machine, and an access of the port is one of that machine at the machine's own
 /// addresses: all that a client needs, but for the codes of two actions, which a port carries out in its own way.
@@ -154,6 +159,20 @@ pub fn a_listing_rises()
         → IsNotGreater listing.last.port.device.cursor listing.next.answer
         → StartsAnew (records listing.first.port.device) listing.next.answer }
 {}
+
+/// So a listing of `erst_listing` that goes through, wherever the cursor is, has the stored identifiers, each once; and one that has no room
+/// leaves one out.
+pub fn a_listing_has_all_records()
+    ensures all { (addresses : Addresses) (steps room : ℕ) (first : SpaceState) (ids : List ℕ) (last : SpaceState)
+        → ListsPort addresses steps room first (Ok tt) ids last → AreAll (records first.port.device) ids }
+    ensures once { (addresses : Addresses) (steps room : ℕ) (first : SpaceState) (ids : List ℕ) (last : SpaceState)
+        → ListsPort addresses steps room first (Ok tt) ids last → AreDistinct ids }
+    ensures full { (addresses : Addresses) (steps room : ℕ) (first : SpaceState) (ids : List ℕ) (last : SpaceState)
+        → ListsPort addresses steps room first (Err Full) ids last → (length ids ≡ room) × (id : ℕ)
+        × IsSome (get (records first.port.device) id) × (Contains ids id → ⊥) }
+{
+    a_listing_has_all();
+}
 
 /// The port's count of faults never falls, and a call is answered `Hardware` only where it rose.
 pub fn hardware_has_its_cause()

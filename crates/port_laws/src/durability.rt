@@ -22,8 +22,8 @@ pub fn an_opening_begins()
         → Begins origin geometry first }
 {}
 
-/// Whatever calls are made, the medium holds behind its first bytes what the port's flash held after as many changes as the medium made: once it
-/// made all, what the flash holds. Its first bytes stay.
+/// Whatever calls are made, the medium holds behind its first bytes what the port's flash held after as many changes as the medium made, with the
+/// bytes of the next one that it made: once it made all, what the flash holds. Its first bytes stay.
 pub fn a_medium_keeps_step()
     ensures step { (origin : ℕ) (geometry : Geometry) (run : PortRun origin geometry) → IsInStep run.last }
     ensures all { (origin : ℕ) (geometry : Geometry) (run : PortRun origin geometry) → IsCounted run.last.port
@@ -32,12 +32,12 @@ pub fn a_medium_keeps_step()
         → SameFront origin run.first.medium run.last.medium }
 {}
 
-/// Whatever calls were made, and whatever power lost in the change that is due leaves in its range, the medium holds a crash image of the port's
-/// flash, at the step of that change. Its first bytes stay, so that it is a medium of the same geometry.
+/// Whatever calls were made, and whatever power lost in the part of a change that is due leaves in its range, the medium holds a crash image of the
+/// port's flash, at the step of that change. Its first bytes stay, so that it is a medium of the same geometry.
 pub fn lost_power_leaves_a_crash_image()
     ensures crash { (origin : ℕ) (geometry : Geometry) (run : PortRun origin geometry) (left : List ℕ)
         → IsLeft run.last left
-        → CrashImage (flash_of run.last.port).told run.last.port.made (drop origin left) }
+        → CrashImage (flash_of run.last.port).told run.last.port.made.changes (drop origin left) }
     ensures front { (origin : ℕ) (geometry : Geometry) (run : PortRun origin geometry) (left : List ℕ)
         → IsLeft run.last left → SameFront origin run.first.medium left }
     ensures medium { (geometry : Geometry) (run : PortRun geometry.sector geometry) (left : List ℕ)

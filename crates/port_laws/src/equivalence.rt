@@ -1,13 +1,15 @@
 // Laws on two ports that are equivalent: the functions do nothing, and their clauses are the laws.
-ghost use Rattle.std.specs.Prelude.{◌≡◌, ℕ, ◌+◌, List, length};
+ghost use Rattle.std.specs.Prelude.{◌≡◌, ℕ, ◌+◌, List, length, Result};
 ghost use Rattle.apei_tables.specs.declared.widths.Width.{Width};
+ghost use Rattle.erst_port.specs.declared.errors.PortError.{PortError};
 ghost use Rattle.erst_port.specs.declared.windows.Location.{Location};
-ghost use Rattle.erst_port.specs.PortState.{PortState};
+ghost use Rattle.erst_port.specs.PortState.{PortState, IsMade};
 ghost use Rattle.erst_port.specs.Accesses.{number_read, NumberWritten, bytes_read, bytes_stored, Resets};
 ghost use Rattle.base_model.specs.Layout.{room_of, reach_of};
 ghost use Rattle.erst_port.specs.Saved.{head_size, IsSaved};
 ghost use Rattle.erst_port.specs.Loaded.{AreOfDevice, AreOfLayout, GoesOn};
-ghost use Rattle.port_laws.specs.Equivalence.{EquivalentPorts, AnswerAlike};
+ghost use Rattle.port_laws.specs.Equivalence.{EquivalentPorts, AnswerAlike, FailedNothing};
+ghost use Rattle.port_laws.specs.GoingOn.{Ask, AnswersAll};
 
 /// The bytes as which a port was saved are taken over every flash that is divided as its own.
 pub fn a_saved_port_is_taken()
@@ -42,4 +44,13 @@ pub fn equivalent_ports_write_alike()
 /// Restarts of such ports are answered the same, and leave them alike.
 pub fn equivalent_ports_reset_alike()
     ensures { (one other : PortState) → AnswerAlike Resets one other }
+{}
+
+/// So whatever is written to two such ports, or restarts them, one thing after another: they give the same answers, and are equivalent at the end.
+/// Before each the mediums have made every change, and the flashes fail nothing.
+pub fn equivalent_ports_go_on_alike()
+    ensures { (one other : PortState) (asks : List Ask) (answers also : List (Result (Unit {0}) PortError))
+        (one_last other_last : PortState) → EquivalentPorts one other → IsMade one → IsMade other
+        → AnswersAll one asks answers one_last → FailedNothing one one_last → AnswersAll other asks also other_last
+        → FailedNothing other other_last → (answers ≡ also) × EquivalentPorts one_last other_last }
 {}

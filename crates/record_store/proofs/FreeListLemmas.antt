@@ -1,19 +1,19 @@
 -- The list of free slots, as slots join it or leave it.
-use Rattle.std.proofs.Common.{◌≡◌, ◌⊎◌, ℕ, zero, suc, ◌+◌, ◌<◌, ◌≤◌, Bool, true, false, not, List, [], ◌∷◌, ◌++◌, length, take, drop, get_or, Option, Result, Ok, Err, refl, sym, ap, subst, ◌∙◌, arith, inl, inr}
+use Rattle.std.proofs.Common.{◌≡◌, ◌⊎◌, ℕ, zero, suc, ◌+◌, ◌<◌, ◌≤◌, Bool, true, false, not, List, [], ◌∷◌, ◌++◌, length, take, get_or, Option, Result, Ok, Err, refl, sym, ap, subst, ◌∙◌, arith, inl, inr}
 use Rattle.std.specs.Prelude.{insert, OnOk, OnErr, ◌==◌, ◌||◌, ◌&&◌}
 use Rattle.std.specs.List.{list_any}
 use Rattle.std.specs.Ordering.{nat_cmp}
 use Rattle.std.proofs.lemmas.Bool.{cases_Bool, eqb-true, eq-eqb, or_cases, both_ways, not-true}
 use Rattle.std.proofs.lemmas.List.Edits.{length-insert}
 use Rattle.std.proofs.lemmas.List.Sorted.{searched}
-use Rattle.std.specs.List.Sorted.{IsStrictlyIncreasing, IsBinarySearchResult}
+use Rattle.std.specs.List.Sorted.{IsBinarySearchResult}
 use Rattle.record_slots.proofs.RisingLemmas.{rising_le}
 use Rattle.record_model.specs.Records.{Entry, is_taken}
 use Rattle.record_slots.specs.declared.found.Found.{Found}
 use Rattle.record_slots.specs.declared.found.SlotOf.{SlotOf}
 use Rattle.record_slots.specs.Listed.{IsListed, AreSlots, free_slots}
 use Rattle.record_slots.proofs.ListedLemmas.{rising-insert, IsListed-insert, IsListed-inserted}
-use Rattle.record_slots.proofs.FreeLemmas.{rising-tail, insert_listed, length-rising, list_below-are, list_below-all, are_below}
+use Rattle.record_slots.proofs.FreeLemmas.{insert_listed, length-rising, list_below-are, list_below-all, are_below}
 use Rattle.record_store.specs.Index.{Frees, Gains}
 
 -- one number is among one
@@ -141,28 +141,6 @@ free_gained entry other slots free after more is had gains taken =
     same : (b : Bool) → b ≡ (b && not false)
     same true = refl
     same false = refl
-
--- the free slots behind the first ones
-rising_drop : (n : ℕ) (xs : List ℕ) → IsStrictlyIncreasing xs → IsStrictlyIncreasing (drop n xs)
-rising_drop zero xs up = up
-rising_drop (suc n) [] up = up
-rising_drop (suc n) (x ∷ xs) up = rising_drop n xs (rising-tail x xs up)
-
-get_drop : (n i : ℕ) (xs : List ℕ) → get_or (drop n xs) i 0 ≡ get_or xs (n + i) 0
-get_drop zero i xs = ap (λ (k : ℕ). get_or xs k 0) (omega arith)
-get_drop (suc n) i [] = empty i (suc n + i)
-  where
-    empty : (a b : ℕ) → ◌≡◌ {A = ℕ} (get_or [] a 0) (get_or [] b 0)
-    empty a b = refl
-get_drop (suc n) i (x ∷ xs) = get_drop n i xs ∙ ap (λ (k : ℕ). get_or (x ∷ xs) k 0) (next n i)
-  where
-    next : (a b : ℕ) → suc (a + b) ≡ suc a + b
-    next a b = omega arith
-
-length_drop : (n : ℕ) (xs : List ℕ) → n + length (drop n xs) ≤ length xs ⊎ (length (drop n xs) ≡ 0)
-length_drop zero xs = inl (omega arith)
-length_drop (suc n) [] = inr refl
-length_drop (suc n) (x ∷ xs) = elim (length_drop n xs) [ inl fits ↦ inl (omega arith) | inr none ↦ inr none ]
 
 -- the first slots of a record joined the free ones
 abbrev pub HasFreed : (slots : ℕ) → (place : SlotOf) → (at : ℕ) → (old now : Found) → Type 0

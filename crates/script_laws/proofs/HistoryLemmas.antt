@@ -163,7 +163,7 @@ module _ (tells : Type 0) where
     history_goes_on wants counts first played last is =
         let all = one_list wants counts first played last is in (length all.0, (events_are_shown tells told first.machine last.machine all.0 all.1).goes_on)
 
-    line_goes_on : (counts : List ℕ) (old : PlayerState) (line : Line) (said : List Reply) (blocks : List (List ℕ)) (steps : List Step) (new : PlayerState) → LinePlayed tells counts old (played_as line said blocks steps new)
+    pub line_goes_on : (counts : List ℕ) (old : PlayerState) (line : Line) (said : List Reply) (blocks : List (List ℕ)) (steps : List Step) (new : PlayerState) → LinePlayed tells counts old (played_as line said blocks steps new)
         → (n : ℕ) × GoesOn n old.machine new.machine
     line_goes_on counts old line said blocks steps new played =
         let happened = played.happened in (length happened.trail, (events_are_shown tells told old.machine new.machine happened.trail happened.happens).goes_on)
@@ -192,13 +192,18 @@ module _ (tells : Type 0) where
         (history_ends wants counts first played last is, (history_goes_on wants counts first played last is).1.later)
 
     -- one line
-    line_shows : (counts : List ℕ) (old : PlayerState) (played : Played) → old.own ≡ own_client old.machine → GivenNoOther old → IsOwnLine played.line
-        → LinePlayed tells counts old played → (steps : List Step) → played.steps ≡ steps
-        → (s : ℕ) (image : List ℕ) → changes_of old.machine ≤ s → CrashImage (told_of played.left.machine) s image → ShowsLine s old played.line steps (shown_by old.machine image)
-    line_shows counts old played own given is line [] unmade s image from crash = (line.leaves told (λ _. uses_either old own given) is unmade).each s image from crash
-    line_shows counts old played own given is line (step ∷ rest) some s image from crash =
+    pub turns_show : (counts : List ℕ) (old : PlayerState) (played : Played) → old.own ≡ own_client old.machine → LinePlayed tells counts old played
+        → (step : Step) (rest : List Step) → played.steps ≡ step ∷ rest → (s : ℕ) (image : List ℕ) → changes_of old.machine ≤ s → CrashImage (told_of played.left.machine) s image
+        → ShowsTurns s old.bridge old.machine (step ∷ rest) (shown_by old.machine image)
+    turns_show counts old played own line step rest some s image from crash =
         subst (λ (steps : List Step). ShowsTurns s old.bridge old.machine steps (shown_by old.machine image)) some
         ((line.turned told own).each (λ unmade. absurd (let e : ◌≡◌ {A = List Step} (step ∷ rest) [] = sym some ∙ unmade in cc e)) s image from crash)
+
+    pub line_shows : (counts : List ℕ) (old : PlayerState) (played : Played) → old.own ≡ own_client old.machine → (names_command played.line ≡ true → UsesEither old) → IsOwnLine played.line
+        → LinePlayed tells counts old played → (steps : List Step) → played.steps ≡ steps
+        → (s : ℕ) (image : List ℕ) → changes_of old.machine ≤ s → CrashImage (told_of played.left.machine) s image → ShowsLine s old played.line steps (shown_by old.machine image)
+    line_shows counts old played own either is line [] unmade s image from crash = (line.leaves told either is unmade).each s image from crash
+    line_shows counts old played own either is line (step ∷ rest) some s image from crash = turns_show counts old played own line step rest some s image from crash
 
     pub history_shows : (wants : List (ℕ → Bool)) (counts : List ℕ) (first : PlayerState) (played : List Played) (last : PlayerState)
         → first.own ≡ own_client first.machine → GivenNoOther first → AreOwnLines played → Follows tells wants counts first played last
@@ -209,7 +214,7 @@ module _ (tells : Type 0) where
         let left = line.left.machine in
         let one = (line_goes_on counts first line.line line.said line.blocks line.steps line.left is.0).1 in
         let more = (history_goes_on wants (heard_after wants line.blocks counts) line.left rest last is.1).1 in
-        let shows = line_shows counts first line own given lines.0 is.0 in
+        let shows = line_shows counts first line own (λ _. uses_either first own given) lines.0 is.0 in
         let stay = line_own tells counts first line.line line.said line.blocks line.steps line.left is.0.plays in
         by_step (changes_of left) s _ _
         (λ after. subst (λ (m : Stored). ShowsLines s line.left rest m) (shown_alike first.machine left image one.equivalent)

@@ -1,5 +1,5 @@
 -- The promise over lines: the record of a block that was stored stays, as long as its identifier is spared.
-use Rattle.std.specs.Prelude.{◌≡◌, ◌≢◌, ◌≤◌, ℕ, List, [], ◌∷◌, Ok}
+use Rattle.std.specs.Prelude.{◌≡◌, ◌≢◌, ◌≤◌, ℕ, true, List, [], ◌∷◌, Ok}
 use Rattle.hex.specs.Hex.{decode_of}
 use Rattle.record_model.specs.Records.{Stored as Records}
 use Rattle.erst_machine.specs.Shown.{changes_of}
@@ -8,8 +8,9 @@ use Rattle.erst_bridge.specs.declared.events.BridgeEvent.TheVariants.{Stored, Ke
 use Rattle.erst_bridge.specs.Turns.{OfBridge}
 use Rattle.erst_bridge.specs.Prefixes.{next_id}
 use Rattle.script_text.specs.ScriptGrammar.{write, clear}
-use Rattle.apei_script.specs.Players.{PlayerState}
+use Rattle.apei_script.specs.Players.{PlayerState, UsesEither}
 use Rattle.apei_script.specs.Bridged.{EachTurn, KeepsBlocks}
+use Rattle.apei_script.specs.Plays.{IsOwnLine, names_command}
 use Rattle.script_laws.specs.History.{Played}
 
 -- Of these lines the first one spares an identifier, and behind it those that begin at step s or before: it neither clears nor writes it, and no
@@ -36,3 +37,20 @@ KeepsAll s state [] shown = Unit {0}
 KeepsAll s state (played ∷ rest) shown =
     KeepsBlocks (λ id. changes_of played.left.machine ≤ s → SpareLines s id played.left rest) s state.bridge state.machine played.steps shown
     × KeepsAll s played.left rest shown
+
+-- a line that runs no action, gives no table, and asks only the clients of the machine's own two tables
+abbrev pub IsOwnPlay : PlayerState → Played → Type 0
+IsOwnPlay state played = IsOwnLine played.line × (names_command played.line ≡ true → UsesEither state)
+
+-- of these lines the first one is such a line, and so are those behind it that begin at step s or before
+abbrev pub AreOwnUntil : ℕ → PlayerState → List Played → Type 0
+AreOwnUntil s state [] = Unit {0}
+AreOwnUntil s state (played ∷ rest) = IsOwnPlay state played × (changes_of played.left.machine ≤ s → AreOwnUntil s played.left rest)
+
+-- the same in any script: the lines before its own are no matter, and those behind that begin at s or before are such lines and spare its
+-- identifier
+abbrev pub KeepsInAny : ℕ → PlayerState → List Played → Records → Type 0
+KeepsInAny s state [] shown = Unit {0}
+KeepsInAny s state (played ∷ rest) shown =
+    KeepsBlocks (λ id. changes_of played.left.machine ≤ s → AreOwnUntil s played.left rest × SpareLines s id played.left rest) s state.bridge state.machine played.steps shown
+    × KeepsInAny s played.left rest shown

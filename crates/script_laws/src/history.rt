@@ -1,6 +1,6 @@
 // Laws on whole histories: the functions do nothing, and their clauses are the laws.
 ghost use Rattle.std.specs.Prelude.{◌≡◌, ℕ, ◌≤◌, Bool, List, Option, None, map};
-ghost use Rattle.base_model.specs.Flash.{IsLater, FlashState};
+ghost use Rattle.base_model.specs.Flash.{CrashImage, IsLater, FlashState};
 ghost use Rattle.std.specs.List.{AllZip};
 ghost use Rattle.erst_bridge.specs.Bridges.{Off};
 ghost use Rattle.flash_model.specs.declared.geometry.Geometry.{Geometry as AnyGeometry};
@@ -10,7 +10,7 @@ ghost use Rattle.record_store.specs.Store.{records_of as records_in};
 ghost use Rattle.apei_space.specs.Accesses.{Move, Trail};
 ghost use Rattle.erst_machine.specs.MachineState.{MachineState, IsMachine, records_of, told_of};
 ghost use Rattle.erst_machine.specs.Events.{Event, Happens};
-ghost use Rattle.erst_machine.specs.Shown.{IsShown, made_by_event, changes_of};
+ghost use Rattle.erst_machine.specs.Shown.{IsShown, made_by_event, changes_of, shown_by};
 ghost use Rattle.erst_commands.specs.Attached.{own_client};
 ghost use Rattle.erst_commands.specs.Equivalence.{EquivalentMachines, FailedNothing, BootsFrom};
 ghost use Rattle.erst_bridge.specs.BridgedRuns.{EachLossShows};
@@ -19,7 +19,7 @@ ghost use Rattle.apei_script.specs.Players.{PlayerState, own_player};
 ghost use Rattle.apei_script.specs.Plays.{Plays, HasHappened};
 ghost use Rattle.script_laws.specs.History.{Played, Follows, EndInOrder, ShowsLines, ShowsEachLine, AreMapped, NoneSaysHardware, AllGoThrough, AlwaysUsesEither};
 ghost use Rattle.script_laws.specs.PlayedLines.{PlayedLines, UseOwnTables};
-ghost use Rattle.script_laws.specs.Spares.{SpareLines, KeepsAll};
+ghost use Rattle.script_laws.specs.Spares.{SpareLines, KeepsAll, KeepsInAny};
 ghost use Rattle.script_laws.specs.Orders.{IsInStep, AlwaysInStep, AllGiveStoredBack};
 ghost use Rattle.script_laws.specs.KeptCauses.{AllHaveCauses};
 ghost use Rattle.script_laws.specs.Equivalence.{EquivalentPlayers, PlayedAlike};
@@ -70,6 +70,12 @@ pub fn stored_blocks_stay<F: Flash>()
         → UseOwnTables F.tells lines → (s : ℕ) (shown : Stored)
         → (changes_of lines.first.machine ≤ s → ShowsLines s lines.first lines.played shown)
         → KeepsAll s lines.first lines.played shown }
+    // In any script, a block's record stays from its turn on until a line begins that does that, runs an action, gives a table, or
+    // asks the client of a given one.
+    ensures in_any { F.tells → (lines : PlayedLines F.tells) → IsMachine lines.first.machine
+        → lines.first.own ≡ own_client lines.first.machine → (s : ℕ) (image : List ℕ)
+        → CrashImage (told_of lines.last.machine) s image
+        → KeepsInAny s lines.first lines.played (shown_by lines.first.machine image) }
 {
     own_programs_run_through::<F>();
 }

@@ -1,2 +1,5 @@
+pub mod GuidTextLemmas
+pub mod JoinLemmas
 pub mod PlaceLemmas
+pub mod SpokenLemmas
 pub mod WorstLemmas

@@ -6,5 +6,10 @@ pub mod Signatures
 pub mod Places
 pub mod Sentences
 pub mod Subjects
+pub mod Phrases
+pub mod Labels
+pub mod Words
+pub mod Spoken
+pub mod Stamps
 pub mod Worst
 pub mod ErrorSections

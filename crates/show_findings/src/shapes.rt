@@ -1,6 +1,6 @@
 // The form of a status block, and files that hold nothing.
 ghost use Rattle.std.specs.Prelude.{◌≡◌, length};
-ghost use Rattle.show_findings.specs.Shapes.{are_all, is_blank, is_block, shaped_kind};
+ghost use Rattle.show_findings.specs.Shapes.{are_all, is_blank, is_block, is_empty_block, shaped_kind};
 
 use crate::FileKind;
 use apei_bytes::get_u32;
@@ -39,7 +39,19 @@ fn is_block(bytes: &[u8]) -> bool
 fn is_blank(bytes: &[u8]) -> bool
     ensures { result ≡ is_blank bytes.now }
 {
-    are_all(0x00, bytes) || are_all(0xFF, bytes)
+    are_all(0x00, bytes) || are_all(0xFF, bytes) || is_empty_block(bytes)
+}
+
+/// Whether this is a status block that reports nothing: it has no status, no raw data, no entries and no severity, and zeros behind its header.
+#[tactic(auto, using(std::proofs::lemmas::Bool::Decides::nat_tests))]
+pub fn is_empty_block(bytes: &[u8]) -> bool
+    ensures { result ≡ is_empty_block bytes.now }
+{
+    if bytes.len() < BLOCK_HEADER {
+        return false;
+    }
+    let says_nothing = get_u32(bytes, 0) == 0 && get_u32(bytes, 8) == 0 && get_u32(bytes, 12) == 0;
+    says_nothing && get_u32(bytes, 16) == 3 && are_all(0x00, &bytes[BLOCK_HEADER..])
 }
 
 fn are_all(filling: u8, bytes: &[u8]) -> bool

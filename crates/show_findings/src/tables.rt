@@ -1,6 +1,6 @@
 // The sentences of tables.
-ghost use Rattle.std.specs.Prelude.{OnOk};
-ghost use Rattle.show_findings.specs.Sentences.{Grows, Says};
+ghost use Rattle.std.specs.Prelude.{◌==◌, ◌++◌, codes, decimal, if◌then◌else◌, OnOk};
+ghost use Rattle.show_findings.specs.Sentences.{Adds, Grows, Says};
 
 use crate::{seen_u32, seen_u64};
 use std::alloc::AllocError;
@@ -17,15 +17,17 @@ pub fn add_table(out: &mut String, table: &[u8]) -> Result<(), AllocError>
     };
     match &signature {
         b"ERST" => {
-            let entries = seen_u32(table, 44);
-            write!(
+            out.push_str("Error Record Serialization Table, ")?;
+            add_counted(
                 out,
-                "Error Record Serialization Table, {entries} instruction entries"
+                seen_u32(table, 44),
+                "instruction entry",
+                "instruction entries",
             )
         }
         b"HEST" => {
-            let sources = seen_u32(table, 36);
-            write!(out, "Hardware Error Source Table, {sources} error sources")
+            out.push_str("Hardware Error Source Table, ")?;
+            add_counted(out, seen_u32(table, 36), "error source", "error sources")
         }
         b"BERT" => {
             let region = seen_u32(table, 36);
@@ -36,6 +38,19 @@ pub fn add_table(out: &mut String, table: &[u8]) -> Result<(), AllocError>
             )
         }
         other => add_other(out, other, len),
+    }
+}
+
+// Adds how many there are, with the word for one or for several.
+fn add_counted(out: &mut String, count: u32, one: &str, several: &str) -> Result<(), AllocError>
+    ensures { OnOk result (Adds (decimal count ++ codes " " ++ (if count == 1 then one.now else several.now)) out.old out.new) }
+{
+    write!(out, "{count}")?;
+    out.push(' ')?;
+    if count == 1 {
+        out.push_str(one)
+    } else {
+        out.push_str(several)
     }
 }
 

@@ -3,7 +3,7 @@ use Rattle.std.proofs.Common.{◌≡◌, ◌≢◌, ◌∙◌, ℕ, false, List,
 use Rattle.std.specs.Io.KnownBytes.{Appends, append_known}
 use Rattle.show_items.specs.Beginnings.{Grows, IfStopped, IsBeginning, IsBegun}
 use Rattle.show_items.specs.Groups.{Group, groups_text, has_more}
-use Rattle.show_items.specs.Items.{Shown, count_after, end_text, heading_text, items_text}
+use Rattle.show_items.specs.Items.{Shown, count_after, end_text, heading_text, items_text, smbios_of}
 use Rattle.show_items.specs.Sheets.{AddsGroups, BeginsItem, EndsItem, GroupsBegun, ItemsBegun, ShowsItems, told}
 use Rattle.show_items.specs.declared.pages.Stop.{Stop}
 use Rattle.show_items.specs.declared.pages.Stop.TheVariants.{Memory}
@@ -112,10 +112,10 @@ shown_and_stopped items before middle after old between shows begun =
 
 pub item_stopped : (item : Shown) (before middle after : Option (List ℕ)) (old begun grouped ended : Sheet)
     → BeginsItem item.heading old begun → AddsGroups item.groups before middle begun grouped → EndsItem item.fault item.bad grouped ended
-    → GroupsBegun [] middle after ended → ItemsBegun (item ∷ []) before after old
-item_stopped item before middle after old begun grouped ended begins adds ends stops =
+    → item.smbios ≡ smbios_of old.manner → GroupsBegun [] middle after ended → ItemsBegun (item ∷ []) before after old
+item_stopped item before middle after old begun grouped ended begins adds ends named stops =
     shown_and_stopped (item ∷ []) before middle after old ended
-    (item_shown item before middle middle old begun grouped ended ended begins adds ends (no_groups middle ended)) stops
+    (item_shown item before middle middle old begun grouped ended ended begins adds ends (no_groups middle ended) named) stops
 
 -- items, and those behind them
 pub items_begun_then : (some more : List Shown) (before middle after : Option (List ℕ)) (old between : Sheet)

@@ -48,7 +48,7 @@ no_entry block (suc most) index at none =
     cond-true (nat_lt (length (data_part block)) (at + 64)) [] _ (lt-ltb (length (data_part block)) (at + 64) (omega (arith, none)))
 
 -- how many bytes a part has
-length_of_part : (bytes : List ℕ) (at n : ℕ) → length (part bytes at n) ≡ min n (length bytes - at)
+pub length_of_part : (bytes : List ℕ) (at n : ℕ) → length (part bytes at n) ≡ min n (length bytes - at)
 unfolding part
 length_of_part bytes at n = rw (length-take, length-drop) refl
 

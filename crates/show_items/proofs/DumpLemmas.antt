@@ -1,6 +1,6 @@
 -- The lines of a text of acpidump, and the tables in them.
 use Rattle.std.proofs.Common.{◌≡◌, ◌∙◌, ◌<◌, ◌+◌, ◌-◌, ℕ, suc, ◌==◌, Bool, true, false, ◌||◌, if◌then◌else◌, List, [], ◌∷◌, ◌++◌, length, take, Option, Some, None, refl, sym, ap, subst, append_assoc, append-nil, arith, true≢false}
-use Rattle.show_items.specs.Dumps.{AreDumpedAs, AreTables, Dumped, EndsTable, ReadsLine, TakesLine, behind_line, byte_and, first_pair, has_any, in_first, is_title, line_bytes, line_len, lines_of, pairs, place_behind, tables_from, tables_left, whole}
+use Rattle.show_items.specs.Dumps.{AreDumpedAs, AreTables, Dumped, ReadsLine, TakesLine, behind_line, byte_and, first_pair, has_any, in_first, is_title, line_bytes, line_len, lines_of, pairs, place_behind, tables_from, tables_left, whole}
 use Rattle.show_items.specs.Items.{Shown}
 use Rattle.show_items.specs.Judged.{ShowsAll, ShowsOne, StopsAll, StopsIn, StopsOne}
 use Rattle.show_items.specs.Sheets.{ItemsBegun, ShowsItems}
@@ -39,17 +39,6 @@ bytes_read line old new no_title rest at begin bytes some = record {
       ∙ ap (λ (b : ℕ). tables_from (place_behind old.at line) b (old.table.items ++ line_bytes line) lines) (sym begin)
       ∙ ap (λ (t : List ℕ). tables_from (place_behind old.at line) new.begin t lines) (sym bytes);
   some = some;
-}
-
-pub title_read : (line : List ℕ) (old ended new : Dump) → is_title line ≡ true → EndsTable old ended → new.rest ≡ ended.rest → new.at ≡ ended.at
-    → new.begin ≡ ended.at → new.table.items ≡ ended.table.items → new.has_tables ≡ ended.has_tables → ReadsLine line old new (whole old.begin old.table.items)
-title_read line old ended new title ends rest at begin bytes some = record {
-  rest = rest ∙ ends.rest;
-  at = at ∙ ends.at;
-  left = λ lines. choice true line old lines title
-      ∙ ap (λ (b : ℕ). whole old.begin old.table.items ++ tables_from (place_behind old.at line) b [] lines) (sym (begin ∙ ends.at))
-      ∙ ap (λ (t : List ℕ). whole old.begin old.table.items ++ tables_from (place_behind old.at line) new.begin t lines) (sym (bytes ∙ ends.bytes));
-  some = some ∙ ends.some;
 }
 
 -- where the next line is a title, the table that is read comes first
@@ -170,11 +159,6 @@ no_table [] text before after old middle new none shows one =
     let first : ShowsItems [] before after old middle = subst (λ (items : List Shown). ShowsItems items before after old middle) shows.1 shows.2 in
     (one.0 ∷ [], (one.1, refl), items_then [] (one.0 ∷ []) before after after old middle new first (items_on_pages (one.0 ∷ []) after middle new one.2))
 no_table (table ∷ tables) text before after old middle new none shows one = absurd (true≢false none)
-
-pub some_tables : (tables : List Dumped) (text : List ℕ) (before after : Option (List ℕ)) (old new : Sheet) → has_any tables ≡ true
-    → ShowsAll (AreTables false tables) before after old new → ShowsAll (AreDumpedAs false tables text) before after old new
-some_tables [] text before after old new some shows = absurd (true≢false (sym some))
-some_tables (table ∷ tables) text before after old new some shows = shows
 
 -- a stop at the tables of a text is one of its items
 pub dumped_begun : (tables : List Dumped) (text : List ℕ) (before after : Option (List ℕ)) (old : Sheet) → StopsIn (λ early. AreTables early tables) before after old

@@ -5,7 +5,7 @@ use Rattle.show_findings.specs.declared.faults.Fault.{Fault}
 use Rattle.show_items.specs.Groups.{fields_group, single}
 use Rattle.show_items.specs.Headers.{IsHeader}
 use Rattle.show_items.specs.Images.{IsFlash}
-use Rattle.show_items.specs.Items.{Heading, Shown}
+use Rattle.show_items.specs.Items.{Heading, Shown, smbios_of}
 use Rattle.show_items.specs.Judged.{ShowsOne}
 use Rattle.show_items.specs.Sheets.{AddsGroups, BeginsItem, EndsItem}
 use Rattle.show_items.specs.declared.sheet.Sheet.{Sheet}
@@ -25,6 +25,7 @@ header_shown kind sentence structure body head bytes fault old begun grouped end
       groups = fields_group (single (codes "header")) structure head ∷ [];
       fault = fault;
       bad = is_some fault;
+      smbios = smbios_of old.manner;
     } in
     let added : AddsGroups item.groups (Some []) (Some []) begun grouped =
     subst (λ (it : List ℕ). AddsGroups (fields_group (single (codes "header")) structure it ∷ []) (Some []) (Some []) begun grouped) same adds in
@@ -34,7 +35,7 @@ header_shown kind sentence structure body head bytes fault old begun grouped end
       told = refl;
       bad = refl;
     } in
-    (item, is, item_shown item (Some []) (Some []) (Some []) old begun grouped ended ended begins added ends (no_groups (Some []) ended))
+    (item, is, item_shown item (Some []) (Some []) (Some []) old begun grouped ended ended begins added ends (no_groups (Some []) ended) refl)
 
 pub flash_shown : (sentence image : List ℕ) (old begun ended : Sheet) → BeginsItem (heading (codes "image") sentence image) old begun → EndsItem None false begun ended
     → ShowsOne (IsFlash image) (Some []) (Some []) old ended
@@ -44,10 +45,11 @@ flash_shown sentence image old begun ended begins ends =
       groups = [];
       fault = None;
       bad = false;
+      smbios = smbios_of old.manner;
     } in
     let is : IsFlash image item = record {
       heading = record { word = refl; place = refl; size = refl };
       groups = refl;
       judged = record { none = refl; is_bad = refl };
     } in
-    (item, is, item_shown item (Some []) (Some []) (Some []) old begun begun ended ended begins (no_groups (Some []) begun) ends (no_groups (Some []) ended))
+    (item, is, item_shown item (Some []) (Some []) (Some []) old begun begun ended ended begins (no_groups (Some []) begun) ends (no_groups (Some []) ended) refl)

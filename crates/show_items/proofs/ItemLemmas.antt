@@ -2,7 +2,7 @@
 use Rattle.std.proofs.Common.{◌≡◌, ℕ, List, [], ◌∷◌, ◌++◌, take, Option, Some, refl, subst}
 use Rattle.base_model.specs.Bytes.{part}
 use Rattle.show_items.specs.Groups.{Group}
-use Rattle.show_items.specs.Items.{Shown}
+use Rattle.show_items.specs.Items.{Shown, smbios_of}
 use Rattle.show_items.specs.Sheets.{AddsGroups, BeginsItem, EndsItem, ShowsItems}
 use Rattle.show_items.specs.declared.sheet.Sheet.{Sheet}
 use Rattle.show_items.proofs.SheetLemmas.{groups_then, item_shown, no_groups, on_pages}
@@ -28,6 +28,6 @@ turned_and_more some more before middle after old added turned new adds turns th
 -- an item that was begun, whose groups were added, and that was ended
 pub shown_alone : (item : Shown) (old begun grouped ended : Sheet)
     → BeginsItem item.heading old begun → AddsGroups item.groups (Some []) (Some []) begun grouped → EndsItem item.fault item.bad grouped ended
-    → ShowsItems (item ∷ []) (Some []) (Some []) old ended
-shown_alone item old begun grouped ended begins adds ends =
-    item_shown item (Some []) (Some []) (Some []) old begun grouped ended ended begins adds ends (no_groups (Some []) ended)
+    → item.smbios ≡ smbios_of old.manner → ShowsItems (item ∷ []) (Some []) (Some []) old ended
+shown_alone item old begun grouped ended begins adds ends named =
+    item_shown item (Some []) (Some []) (Some []) old begun grouped ended ended begins adds ends (no_groups (Some []) ended) named

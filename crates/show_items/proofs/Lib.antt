@@ -6,8 +6,10 @@ pub mod HeaderLemmas
 pub mod ImageLemmas
 pub mod ItemLemmas
 pub mod MediumLemmas
+pub mod PartLemmas
 pub mod PlaceLemmas
 pub mod RecordLemmas
+pub mod RefusalLemmas
 pub mod SequenceLemmas
 pub mod SheetLemmas
 pub mod StorageLemmas

@@ -4,10 +4,12 @@ use Rattle.std.specs.Io.KnownBytes.{Appends}
 use Rattle.field_lines.specs.Layouts.{Structure}
 use Rattle.show_items.specs.Beginnings.{Grows}
 use Rattle.show_items.specs.Groups.{Group, Head, bytes_as, bytes_json, comma, fields_as, fields_json, groups_text, has_more, has_one_more, one_more}
-use Rattle.show_items.specs.Items.{Shown, bad_after, count_after, counted, end_text, heading_text, item_text, items_text}
-use Rattle.show_items.specs.Sheets.{AddsGroups, AddsText, BeginsItem, EndsItem, KeepsItem, ShowsItems, told}
+use Rattle.show_items.specs.Items.{AreNamedBy, Shown, bad_after, count_after, counted, end_text, heading_text, item_text, items_text, smbios_of}
+use Rattle.show_items.specs.Parts.{part_as, part_json}
+use Rattle.show_items.specs.Sheets.{AddsGroups, BeginsItem, EndsItem, KeepsItem, ShowsItems, told}
 use Rattle.show_items.specs.declared.sheet.Form.{Form}
 use Rattle.show_items.specs.declared.sheet.Form.TheVariants.{Brief, Json}
+use Rattle.show_items.specs.declared.parts.Named.{Named}
 use Rattle.show_items.specs.declared.sheet.Manner.{Manner}
 use Rattle.show_items.specs.declared.sheet.Sheet.{Sheet}
 use Rattle.show_items.proofs.TextLemmas.{one_group}
@@ -50,14 +52,6 @@ kept_same sheet = record {
   bad = refl;
   path = refl;
   manner = refl;
-}
-
--- texts
-pub texts_then : (x y : List ℕ) (old middle new : Sheet) → AddsText x old middle → AddsText y middle new → AddsText (x ++ y) old new
-texts_then x y old middle new first then = record {
-  text = then.text ∙ ap (λ (t : List ℕ). t ++ y) first.text ∙ append_assoc old.out.items x y;
-  groups = then.groups ∙ first.groups;
-  same = kept old middle new first.same then.same;
 }
 
 -- groups
@@ -158,11 +152,16 @@ bytes_in_json form places head body json =
     let T : Form → Type 0 = λ (it : Form). bytes_json head body ≡ bytes_as it places head body in
     subst T (sym json) refl
 
+pub part_in_json : (form : Form) (places : Bool) (head : Head) (part : Named) → form ≡ Json → part_json head part ≡ part_as form places head part
+part_in_json form places head part json =
+    let T : Form → Type 0 = λ (it : Form). part_json head part ≡ part_as it places head part in
+    subst T (sym json) refl
+
 -- an item that was begun, whose groups were added, that was ended, and of which a page may then have been written, is shown
 pub item_shown : (item : Shown) (before middle after : Option (List ℕ)) (old begun grouped ended new : Sheet)
     → BeginsItem item.heading old begun → AddsGroups item.groups before middle begun grouped → EndsItem item.fault item.bad grouped ended
-    → AddsGroups [] middle after ended new → ShowsItems (item ∷ []) before after old new
-item_shown item before middle after old begun grouped ended new begins adds ends turns =
+    → AddsGroups [] middle after ended new → item.smbios ≡ smbios_of old.manner → ShowsItems (item ∷ []) before after old new
+item_shown item before middle after old begun grouped ended new begins adds ends turns named =
     let heading : List ℕ = heading_text old.manner old.path.now old.items item.heading in
     let groups : List ℕ = groups_text old.manner false item.groups in
     let end : List ℕ = end_text old.manner item.fault in
@@ -182,6 +181,7 @@ item_shown item before middle after old begun grouped ended new begins adds ends
       grows = grows_then before middle after adds.grows turns.grows;
       count = turns.same.items ∙ ends.items ∙ ap (λ (n : ℕ). counted n 1) (adds.same.items ∙ begins.same.items);
       has_bad = turns.same.bad ∙ ends.has_bad ∙ ap (λ (b : Bool). item.bad || b) (adds.same.bad ∙ begins.same.bad);
+      named_by = (named, tt);
       path = turns.same.path ∙ ends.path ∙ adds.same.path ∙ begins.same.path;
       manner = turns.same.manner ∙ ends.manner ∙ manner;
     }
@@ -202,6 +202,10 @@ bad_then : (bad : Bool) (some more : List Shown) → bad_after (bad_after bad so
 bad_then bad [] more = refl
 bad_then bad (item ∷ some) more = bad_then (item.bad || bad) some more
 
+named_then : (smbios : Option (List ℕ)) (some more : List Shown) → AreNamedBy smbios some → AreNamedBy smbios more → AreNamedBy smbios (some ++ more)
+named_then smbios [] more first then = then
+named_then smbios (item ∷ some) more first then = (first.0, named_then smbios some more first.1 then)
+
 pub items_then : (some more : List Shown) (before middle after : Option (List ℕ)) (old between new : Sheet)
     → ShowsItems some before middle old between → ShowsItems more middle after between new → ShowsItems (some ++ more) before after old new
 items_then some more before middle after old between new first then =
@@ -215,6 +219,8 @@ items_then some more before middle after old between new first then =
       grows = grows_then before middle after first.grows then.grows;
       count = then.count ∙ ap (λ (n : ℕ). count_after n more) first.count ∙ count_then old.items some more;
       has_bad = then.has_bad ∙ ap (λ (b : Bool). bad_after b more) first.has_bad ∙ bad_then old.has_bad some more;
+      named_by = named_then (smbios_of old.manner) some more first.named_by
+          (subst (λ (manner : Manner). AreNamedBy (smbios_of manner) more) first.manner then.named_by);
       path = then.path ∙ first.path;
       manner = then.manner ∙ first.manner;
     }
@@ -229,6 +235,7 @@ no_items written sheet = record {
   grows = grows_by_none written;
   count = refl;
   has_bad = refl;
+  named_by = tt;
   path = refl;
   manner = refl;
 }
@@ -240,6 +247,7 @@ items_on_pages items written old new shows = record {
   grows = grows_by_none written;
   count = shows.count;
   has_bad = shows.has_bad;
+  named_by = shows.named_by;
   path = shows.path;
   manner = shows.manner;
 }
@@ -253,6 +261,7 @@ shown_and_turned items before middle after old between new shows turns = record 
   grows = grows_then before middle after shows.grows turns.grows;
   count = turns.same.items ∙ shows.count;
   has_bad = turns.same.bad ∙ shows.has_bad;
+  named_by = shows.named_by;
   path = turns.same.path ∙ shows.path;
   manner = turns.same.manner ∙ shows.manner;
 }

@@ -7,7 +7,8 @@ use Rattle.hest_sources.specs.declared.tables.HestError.{HestError}
 use Rattle.show_findings.specs.Places.{HasInstruction, IsNoSource, IsSource, seen_number}
 use Rattle.show_items.specs.Groups.{Group}
 use Rattle.show_items.specs.Sheets.{AddsGroups, GroupsBegun}
-use Rattle.show_items.specs.Tables.{instruction_at, instruction_group, instruction_groups, source_and_more, source_group, source_groups, source_kind, source_length}
+use Rattle.show_items.specs.TablePlaces.{instruction_at, source_kind, source_length}
+use Rattle.show_items.specs.Tables.{instruction_group, instruction_groups, source_and_more, source_group, source_groups}
 use Rattle.show_items.specs.declared.sheet.Sheet.{Sheet}
 use Rattle.show_items.proofs.BeginningLemmas.{groups_begun_then}
 use Rattle.show_items.proofs.SheetLemmas.{groups_then, on_pages}

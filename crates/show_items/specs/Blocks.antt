@@ -1,13 +1,15 @@
 -- Error status blocks (ACPI 6.4, section 18.3.2.7.1): what is shown of one.
-use Rattle.std.specs.Prelude.{◌≡◌, ℕ, zero, suc, ◌+◌, nat_lt, if◌then◌else◌, List, [], ◌∷◌, ◌++◌, length, drop, codes, Option, None}
+use Rattle.std.specs.Prelude.{◌≡◌, ℕ, zero, suc, ◌+◌, nat_lt, if◌then◌else◌, List, [], ◌∷◌, ◌++◌, length, drop, codes, Option, Some, None, ◌⊎◌}
 use Rattle.base_model.specs.Bytes.{part, number_at}
 use Rattle.field_lines.specs.Layouts.{Structure}
 use Rattle.ghes_block.specs.Reading.{head_size}
 use Rattle.item_parts.specs.declared.items.Item.TheVariants.{Block}
-use Rattle.show_findings.specs.Places.{data_part, seen_number}
+use Rattle.show_findings.specs.Places.{HasDataEntry, data_part, seen_number}
 use Rattle.show_items.specs.Groups.{Group, Head, bytes_group, fields_group, single, typed}
 use Rattle.show_items.specs.Items.{Shown}
 use Rattle.show_items.specs.Judged.{IsJudgedBy, IsShownAs}
+use Rattle.show_items.specs.Parts.{ArePartsOf, ArePartsThen, part_groups}
+use Rattle.show_items.specs.declared.parts.Part.{Part}
 use Rattle.show_items.specs.Records.{section_group}
 use Rattle.field_lines.specs.Blocks.{block_status, long_data_entry, short_data_entry}
 
@@ -70,8 +72,24 @@ abbrev pub block_groups : List ℕ → List Group
 block_groups bytes =
     head_group bytes ∷ entry_groups bytes (length bytes) 0 20 ++ raw_groups (seen_number bytes 4 4) (raw_of bytes)
 
--- a block that begins at a place of its file
+-- the parts that the entries from a place on name by the structures of a table, at most so many
+abbrev pub ArePartsBehind : (table block : List ℕ) → (most index at : ℕ) → List Part → Type 0
+ArePartsBehind table block zero index at parts = parts ≡ []
+ArePartsBehind table block (suc most) index at parts =
+    ((¬ HasDataEntry block at) × (parts ≡ []))
+    ⊎ (HasDataEntry block at × ArePartsThen
+    (ArePartsOf (entry_guid block at) table (entry_body block at) index (entry_body_at block at))
+    (ArePartsBehind table block most (index + 1) (entry_end block at)) parts)
+
+-- without a table there are none
+abbrev pub AreBlockParts : (smbios : Option (List ℕ)) → (block : List ℕ) → List Part → Type 0
+AreBlockParts None block parts = parts ≡ []
+AreBlockParts (Some table) block parts = ArePartsBehind table block (length block) 0 20 parts
+
+-- a block that begins at a place of its file; behind its groups stand the parts that its sections name
 pub record IsBlock (at : Option ℕ) (bytes : List ℕ) (item : Shown) : Type 0 where
   pub heading : IsShownAs (codes "block") at bytes item
-  pub groups : item.groups ≡ block_groups bytes
+  pub parts : List Part
+  pub are_parts : AreBlockParts item.smbios bytes parts
+  pub groups : item.groups ≡ block_groups bytes ++ part_groups parts
   pub judged : IsJudgedBy Block bytes item

@@ -35,14 +35,22 @@ abbrev pub behind_colon : List ℕ → List ℕ
 behind_colon [] = []
 behind_colon (byte ∷ bytes) = if byte == 58 then bytes else behind_colon bytes
 
--- a space and two digits of sixteen, and what stands behind them
+-- two digits of sixteen, and what stands behind them
 abbrev pub pair_of : Option ℕ → Option ℕ → List ℕ → Option (ℕ × List ℕ)
 pair_of (Some high) (Some low) more = Some (high * 16 + low, more)
 pair_of high low more = None
 
+abbrev pub digits_first : List ℕ → Option (ℕ × List ℕ)
+digits_first (high ∷ low ∷ more) = pair_of (value_of high) (value_of low) more
+digits_first other = None
+
+-- one space may stand before them: some tools write two bytes without one between
+abbrev pub without_space : List ℕ → List ℕ
+without_space [] = []
+without_space (byte ∷ bytes) = if byte == 32 then bytes else byte ∷ bytes
+
 abbrev pub first_pair : List ℕ → Option (ℕ × List ℕ)
-first_pair (space ∷ high ∷ low ∷ more) = if space == 32 then pair_of (value_of high) (value_of low) more else None
-first_pair other = None
+first_pair text = digits_first (without_space text)
 
 -- the bytes of at most so many pairs
 abbrev pub byte_and : Option (ℕ × List ℕ) → (List ℕ → List ℕ) → List ℕ

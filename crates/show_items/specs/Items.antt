@@ -1,5 +1,5 @@
 -- An item: what is written of one, and of several, one after another.
-use Rattle.std.specs.Prelude.{ℕ, ◌+◌, ◌-◌, ◌^◌, ◌==◌, min, Bool, true, false, ◌||◌, if◌then◌else◌, List, [], ◌∷◌, ◌++◌, length, codes, decimal, Option, Some, None, string_bytes}
+use Rattle.std.specs.Prelude.{◌≡◌, ℕ, ◌+◌, ◌-◌, ◌^◌, ◌==◌, min, Bool, true, false, ◌||◌, if◌then◌else◌, List, [], ◌∷◌, ◌++◌, length, codes, decimal, Option, Some, None, option_map, string_bytes}
 use Rattle.show_findings.specs.declared.faults.Fault.{Fault}
 use Rattle.show_items.specs.Groups.{Group, groups_text}
 use Rattle.show_items.specs.Texts.{bold, colored, number_json, quoted, red}
@@ -24,6 +24,21 @@ pub record Shown : Type 0 where
   pub groups : List Group
   pub fault : Option Fault
   pub bad : Bool
+  -- the structures of the SMBIOS that name its parts
+  pub smbios : Option (List ℕ)
+
+-- the structures that a manner has; in the brief form there are no parts
+abbrev pub smbios_as : Form → Option (List ℕ) → Option (List ℕ)
+smbios_as Brief smbios = None
+smbios_as form smbios = smbios
+
+abbrev pub smbios_of : Manner → Option (List ℕ)
+smbios_of manner = smbios_as manner.form (option_map (λ it. it.now) manner.smbios)
+
+-- the parts of all items are named by the same structures
+abbrev pub AreNamedBy : (smbios : Option (List ℕ)) → List Shown → Type 0
+AreNamedBy smbios [] = Unit {0}
+AreNamedBy smbios (item ∷ items) = (item.smbios ≡ smbios) × AreNamedBy smbios items
 
 -- an empty line stands before each item but the first, and a path before each item where there are several files
 abbrev pub gap : (count : ℕ) → List ℕ

@@ -8,12 +8,15 @@ pub mod Headers
 pub mod Images
 pub mod Items
 pub mod Judged
+pub mod Parts
 pub mod Places
 pub mod Records
+pub mod Refusals
 pub mod Sequences
 pub mod Sheets
 pub mod Singles
 pub mod Stops
 pub mod Storage
+pub mod TablePlaces
 pub mod Tables
 pub mod Texts

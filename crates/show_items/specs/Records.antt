@@ -1,14 +1,16 @@
 -- Error records (UEFI 2.8, appendix N.2): what is shown of one.
-use Rattle.std.specs.Prelude.{◌≡◌, ℕ, zero, suc, ◌+◌, ◌-◌, ◌*◌, ◌^◌, nat_lt, min, if◌then◌else◌, List, [], ◌∷◌, length, take, codes, Option}
+use Rattle.std.specs.Prelude.{◌≡◌, ℕ, zero, suc, ◌+◌, ◌-◌, ◌*◌, ◌^◌, nat_lt, min, if◌then◌else◌, List, [], ◌∷◌, ◌++◌, length, take, codes, Option, Some, None, ◌⊎◌}
 use Rattle.apei_bytes.specs.Guid.{guid_text}
 use Rattle.base_model.specs.Bytes.{part, number_at}
 use Rattle.field_lines.specs.Layouts.{Structure}
 use Rattle.item_parts.specs.declared.items.Item.TheVariants.{Record}
-use Rattle.show_findings.specs.Places.{seen_number}
+use Rattle.show_findings.specs.Places.{HasSection, seen_number}
 use Rattle.show_findings.specs.Subjects.{is_of_linux}
 use Rattle.show_items.specs.Groups.{Group, Head, fields_group, group_by, numbered, single, typed}
 use Rattle.show_items.specs.Items.{Shown}
 use Rattle.show_items.specs.Judged.{IsJudgedBy, IsShownAs}
+use Rattle.show_items.specs.Parts.{ArePartsOf, ArePartsThen, part_groups}
+use Rattle.show_items.specs.declared.parts.Part.{Part}
 use Rattle.field_lines.specs.Records.{linux_header, record_header, section_descriptor}
 use Rattle.field_lines.specs.Sections.{section_structure}
 
@@ -70,8 +72,24 @@ room_of bytes = min (length bytes * 16) (2 ^ 64 - 1)
 abbrev pub record_groups : List ℕ → List Group
 record_groups bytes = header_group bytes ∷ section_groups bytes (seen_number bytes 10 2) 0 (room_of bytes)
 
--- a record that begins at a place of its file
+-- the parts that so many sections name by the structures of a table, from one section on
+abbrev pub ArePartsFrom : (table bytes : List ℕ) → (count index : ℕ) → List Part → Type 0
+ArePartsFrom table bytes zero index parts = parts ≡ []
+ArePartsFrom table bytes (suc count) index parts =
+    ((¬ HasSection bytes index) × (parts ≡ []))
+    ⊎ (HasSection bytes index × ArePartsThen
+    (ArePartsOf (section_type bytes index) table (section_body bytes index) index (section_offset bytes index))
+    (ArePartsFrom table bytes count (index + 1)) parts)
+
+-- without a table there are none
+abbrev pub AreRecordParts : (smbios : Option (List ℕ)) → (bytes : List ℕ) → List Part → Type 0
+AreRecordParts None bytes parts = parts ≡ []
+AreRecordParts (Some table) bytes parts = ArePartsFrom table bytes (seen_number bytes 10 2) 0 parts
+
+-- a record that begins at a place of its file; behind its groups stand the parts that its sections name
 pub record IsRecord (at : Option ℕ) (bytes : List ℕ) (item : Shown) : Type 0 where
   pub heading : IsShownAs (codes "record") at bytes item
-  pub groups : item.groups ≡ record_groups bytes
+  pub parts : List Part
+  pub are_parts : AreRecordParts item.smbios bytes parts
+  pub groups : item.groups ≡ record_groups bytes ++ part_groups parts
   pub judged : IsJudgedBy Record bytes item

@@ -4,7 +4,7 @@ use Rattle.std.specs.Io.KnownBytes.{Appends, append_known}
 use Rattle.show_findings.specs.declared.faults.Fault.{Fault}
 use Rattle.show_items.specs.Beginnings.{Grows, IsBegun}
 use Rattle.show_items.specs.Groups.{Group, groups_text, has_more}
-use Rattle.show_items.specs.Items.{Heading, Shown, bad_after, count_after, counted, end_text, heading_text, items_text}
+use Rattle.show_items.specs.Items.{AreNamedBy, Heading, Shown, bad_after, count_after, counted, end_text, heading_text, items_text, smbios_of}
 use Rattle.show_items.specs.declared.sheet.Sheet.{Sheet}
 
 -- what was written to the pages, where that is known, and behind it what stands on the sheet
@@ -56,6 +56,7 @@ pub record ShowsItems (items : List Shown) (before after : Option (List ℕ)) (o
   pub grows : Grows before after
   pub count : new.items ≡ count_after old.items items
   pub has_bad : new.has_bad ≡ bad_after old.has_bad items
+  pub named_by : AreNamedBy (smbios_of old.manner) items
   pub path : new.path ≡ old.path
   pub manner : new.manner ≡ old.manner
 

@@ -1,8 +1,7 @@
 -- Tables (ACPI 6.4, sections 5.2.6, 18.3 and 18.5.1): the groups of one, and whether it is bad.
-use Rattle.std.specs.Prelude.{◌≡◌, ℕ, zero, suc, ◌+◌, ◌*◌, if◌then◌else◌, nat_lt, List, [], ◌∷◌, length, drop, codes, Option, Some, None, is_some, Result, Ok, Err}
-use Rattle.base_model.specs.Bytes.{part, number_at}
+use Rattle.std.specs.Prelude.{◌≡◌, ℕ, zero, suc, ◌+◌, ◌||◌, Bool, if◌then◌else◌, nat_lt, List, [], ◌∷◌, ◌++◌, length, codes, Option, Some, None, is_some, Result, Ok, Err}
+use Rattle.base_model.specs.Bytes.{part}
 use Rattle.field_lines.specs.Layouts.{Structure}
-use Rattle.hest_sources.specs.Layout.{length_by_type}
 use Rattle.hest_sources.specs.declared.tables.HestError.{HestError}
 use Rattle.item_parts.specs.declared.items.Item.{Item}
 use Rattle.item_parts.specs.declared.items.Item.TheVariants.{Erst, Hest, Bert}
@@ -12,6 +11,8 @@ use Rattle.show_findings.specs.Signatures.{begins}
 use Rattle.show_items.specs.Groups.{Group, fields_group, group_by, numbered, single}
 use Rattle.show_items.specs.Items.{Shown}
 use Rattle.show_items.specs.Judged.{IsFinding, IsShownAs}
+use Rattle.show_items.specs.Refusals.{has_any, refused_groups}
+use Rattle.show_items.specs.TablePlaces.{instruction_at, source_kind, source_length}
 use Rattle.field_lines.specs.Erst.{erst_entry, erst_header}
 use Rattle.field_lines.specs.Headers.{bert_fields, hest_header, table_header}
 use Rattle.field_lines.specs.Sources.{source_tables, structure_in}
@@ -32,9 +33,6 @@ abbrev pub header_group : List ℕ → Group
 header_group bytes = fixed_group (codes "header") table_header 36 bytes
 
 -- an instruction entry of an ERST
-abbrev pub instruction_at : (index : ℕ) → ℕ
-instruction_at index = 48 + 32 * index
-
 abbrev pub instruction_group : (index : ℕ) → (entry : List ℕ) → Group
 instruction_group index entry = fields_group (numbered (codes "entry") index (instruction_at index)) erst_entry entry
 
@@ -45,13 +43,7 @@ instruction_groups bytes (suc count) index =
     if nat_lt (length bytes) (instruction_at index + 32) then []
     else instruction_group index (part bytes (instruction_at index) 32) ∷ instruction_groups bytes count (suc index)
 
--- an error source of a HEST: its type, and its length by its type
-abbrev pub source_kind : List ℕ → (at : ℕ) → ℕ
-source_kind bytes at = number_at (drop at bytes) 0 2
-
-abbrev pub source_length : List ℕ → (at : ℕ) → Result ℕ HestError
-source_length bytes at = length_by_type (source_kind bytes at) 0 (drop at bytes)
-
+-- an error source of a HEST
 abbrev pub source_group : (index at kind : ℕ) → (source : List ℕ) → Group
 source_group index at kind source = group_by (structure_in source_tables kind) (numbered (codes "source") index at) source
 
@@ -77,17 +69,21 @@ groups_behind (Some Hest) bytes =
 groups_behind (Some Bert) bytes = fixed_group (codes "table") bert_fields 48 bytes ∷ []
 groups_behind other bytes = []
 
+-- and behind that what Linux refuses
 abbrev pub table_groups : List ℕ → List Group
-table_groups bytes = header_group bytes ∷ groups_behind (table_of bytes) bytes
+table_groups bytes = header_group bytes ∷ groups_behind (table_of bytes) bytes ++ refused_groups (table_of bytes) bytes
+
+abbrev pub is_refused : List ℕ → Bool
+is_refused bytes = has_any (refused_groups (table_of bytes) bytes)
 
 -- of a table whose fields are not known no fault is told
 abbrev pub IsTableFault : Option Item → List ℕ → Option Fault → Type 0
 IsTableFault None bytes fault = fault ≡ None
 IsTableFault (Some table) bytes fault = IsFinding table bytes fault
 
--- a table that begins at a place of its file
+-- a table that begins at a place of its file; one of which Linux refuses something is bad
 pub record IsTable (at : Option ℕ) (bytes : List ℕ) (item : Shown) : Type 0 where
   pub heading : IsShownAs (codes "table") at bytes item
   pub groups : item.groups ≡ table_groups bytes
   pub finding : IsTableFault (table_of bytes) bytes item.fault
-  pub bad : item.bad ≡ is_some item.fault
+  pub bad : item.bad ≡ (is_refused bytes || is_some item.fault)

@@ -1,5 +1,5 @@
 // Error status blocks (ACPI 6.4, section 18.3.2.7.1).
-ghost use Rattle.std.specs.Prelude.{◌<◌, ◌≤◌, ◌^◌, ◌+◌, [], ◌∷◌, length, Some, codes, OnOk};
+ghost use Rattle.std.specs.Prelude.{◌<◌, ◌≤◌, ◌^◌, ◌+◌, [], ◌∷◌, ◌++◌, length, Some, codes, OnOk};
 ghost use Rattle.base_model.specs.Bytes.{part};
 ghost use Rattle.show_findings.specs.Places.{seen_number};
 ghost use Rattle.show_items.specs.Beginnings.{IfStopped};
@@ -7,12 +7,14 @@ ghost use Rattle.show_items.specs.Blocks.{IsBlock, block_groups, entry_groups, e
 ghost use Rattle.show_items.specs.Groups.{fields_group, typed};
 ghost use Rattle.show_items.specs.Judged.{ShowsOne, StopsOne};
 ghost use Rattle.show_items.specs.Records.{section_group};
+ghost use Rattle.show_items.specs.Parts.{part_groups};
 ghost use Rattle.show_items.specs.Sheets.{AddsGroups, GroupsBegun};
 ghost use Rattle.show_items.specs.Stops.{HasStop};
 
 use crate::faults::fault_in;
 use crate::groups::Group;
 use crate::pages::{Pages, Stop};
+use crate::parts::{Part, add_parts, block_parts};
 use crate::records::add_section;
 use crate::sheet::{Form, Item, Sheet};
 use apei_bytes::guid_at;
@@ -45,17 +47,23 @@ pub(crate) fn show_block<P: Pages>(
     let mut sentence = String::new(sheet.alloc());
     add_block(&mut sentence, bytes)?;
     let fault = fault_in(sheet, Decoded::Block, bytes)?;
+    let parts = block_parts(sheet, bytes)?;
     sheet.begin(&item, sentence.as_str())?;
-    add_groups(sheet, pages, bytes)?;
+    add_groups(sheet, pages, bytes, &parts)?;
     sheet.end(&fault)?;
     sheet.turn(pages)
 }
 
-fn add_groups<P: Pages>(sheet: &mut Sheet<'_>, pages: &mut P, bytes: &[u8]) -> Result<(), Stop>
-    ensures groups { OnOk result (AddsGroups (block_groups bytes.now) (P.written pages.old) (P.written pages.new)
+fn add_groups<P: Pages>(
+    sheet: &mut Sheet<'_>,
+    pages: &mut P,
+    bytes: &[u8],
+    parts: &[Part<'_>],
+) -> Result<(), Stop>
+    ensures groups { OnOk result (AddsGroups (block_groups bytes.now ++ part_groups parts.now) (P.written pages.old) (P.written pages.new)
         sheet.old sheet.new) }
     ensures cause { HasStop (P.failures pages.old) (P.failures pages.new) result }
-    ensures stopped { IfStopped result (GroupsBegun (block_groups bytes.now)
+    ensures stopped { IfStopped result (GroupsBegun (block_groups bytes.now ++ part_groups parts.now)
         (P.written pages.old) (P.written pages.new) sheet.old) }
 {
     if sheet.form() == Form::Brief {
@@ -63,7 +71,8 @@ fn add_groups<P: Pages>(sheet: &mut Sheet<'_>, pages: &mut P, bytes: &[u8]) -> R
     }
     add_head(sheet, bytes)?;
     add_entries(sheet, pages, bytes)?;
-    Ok(add_raw(sheet, bytes)?)
+    add_raw(sheet, bytes)?;
+    add_parts(sheet, pages, parts)
 }
 
 fn add_head(sheet: &mut Sheet<'_>, bytes: &[u8]) -> Result<(), AllocError>

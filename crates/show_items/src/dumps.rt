@@ -2,7 +2,7 @@
 ghost use Rattle.std.specs.Prelude.{◌≡◌, ◌<◌, ◌≤◌, ◌+◌, ◌++◌, List, length, take, Some, None, IfOk, IfSome, MatchOption, OnOk, true, false};
 ghost use Rattle.show_items.specs.Beginnings.{IfStopped};
 ghost use Rattle.show_items.specs.Digits.{value_of};
-ghost use Rattle.show_items.specs.Dumps.{AreDumped, AreTables, Dumped, EndsTable, ReadsLine, TakesLine, behind_colon, behind_line, first_pair, has_any, is_title, line_bytes, line_len, pairs, tables_in, tables_left, whole};
+ghost use Rattle.show_items.specs.Dumps.{AreDumped, AreTables, Dumped, EndsTable, ReadsLine, TakesLine, behind_colon, behind_line, first_pair, has_any, is_title, line_bytes, line_len, pairs, tables_in, tables_left, whole, without_space};
 ghost use Rattle.show_items.specs.Judged.{ShowsAll, StopsAll, StopsIn};
 ghost use Rattle.show_items.specs.Stops.{HasStop};
 
@@ -167,7 +167,7 @@ fn is_title(line: &[u8]) -> bool
     seen_at(line, 4, 3) == b" @ ".as_slice()
 }
 
-// Adds the bytes of a line: at most 16 pairs of digits behind the colon, each behind a space.
+// Adds the bytes of a line: at most 16 pairs of digits behind the colon.
 #[tactic(auto, unfolding(crate::specs::Dumps::line_bytes))]
 fn add_line(table: &mut Vec<u8>, line: &[u8]) -> Result<(), AllocError>
     ensures { OnOk result (table.new.items ≡ table.old.items ++ line_bytes line.now) }
@@ -202,16 +202,25 @@ fn behind_colon(line: &[u8]) -> &[u8]
     rest
 }
 
-// The byte of the pair of digits behind a space, and what stands behind it.
+// The byte of the first pair of digits, and what stands behind it. One space may stand before it: some tools write two bytes without one between.
 fn first_pair(text: &[u8]) -> Option<(u8, &[u8])>
     ensures { MatchOption result (first_pair text.now ≡ None) (λ pair. first_pair text.now ≡ Some (pair.0, pair.1.now)) }
 {
-    let [b' ', high, low, more @ ..] = text else {
+    let [high, low, more @ ..] = without_space(text) else {
         return None;
     };
     let high = value(*high)?;
     let low = value(*low)?;
     Some((high * 16 + low, more))
+}
+
+fn without_space(text: &[u8]) -> &[u8]
+    ensures { result.now ≡ without_space text.now }
+{
+    match text {
+        [b' ', rest @ ..] => rest,
+        _ => text,
+    }
 }
 
 // The value of a digit of sixteen.

@@ -132,8 +132,8 @@ fn add_digit_object(out: &mut Vec<u8>, group: &Group, body: &[u8]) -> Result<(),
     add(out, "\"}")
 }
 
-// What stands before a field.
-fn add_place(out: &mut Vec<u8>, places: bool, base: u64) -> Result<(), AllocError>
+/// Adds what stands before a field.
+pub(crate) fn add_place(out: &mut Vec<u8>, places: bool, base: u64) -> Result<(), AllocError>
     ensures { OnOk result (out.new.items ≡ out.old.items ++ codes "    " ++ place_text places base) }
 {
     add(out, "    ")?;
@@ -145,8 +145,8 @@ fn add_place(out: &mut Vec<u8>, places: bool, base: u64) -> Result<(), AllocErro
     add(out, "] ")
 }
 
-// The line of a group: its name, its number, and the type of a section.
-fn add_title(out: &mut Vec<u8>, group: &Group) -> Result<(), AllocError>
+/// Adds the line of a group: its name, its number, and the type of a section.
+pub(crate) fn add_title(out: &mut Vec<u8>, group: &Group) -> Result<(), AllocError>
     ensures { OnOk result (out.new.items ≡ out.old.items ++ title (head_of group.now)) }
 {
     add(out, "  ")?;
@@ -194,8 +194,8 @@ fn add_type_name(out: &mut Vec<u8>, kind: &Guid) -> Result<(), AllocError>
     add(out, " ")
 }
 
-// The first members of a group's object.
-fn add_members(out: &mut Vec<u8>, group: &Group) -> Result<(), AllocError>
+/// Adds the first members of a group's object.
+pub(crate) fn add_members(out: &mut Vec<u8>, group: &Group) -> Result<(), AllocError>
     ensures { OnOk result (out.new.items ≡ out.old.items ++ members (head_of group.now)) }
 {
     add_name(out, group)?;

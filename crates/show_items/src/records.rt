@@ -1,11 +1,12 @@
 // Error records (UEFI 2.8, appendix N.2).
-ghost use Rattle.std.specs.Prelude.{◌<◌, ◌≤◌, ◌^◌, ◌+◌, [], ◌∷◌, length, Some, codes, OnOk};
+ghost use Rattle.std.specs.Prelude.{◌<◌, ◌≤◌, ◌^◌, ◌+◌, [], ◌∷◌, ◌++◌, length, Some, codes, OnOk};
 ghost use Rattle.base_model.specs.Bytes.{part};
 ghost use Rattle.show_findings.specs.Places.{seen_number};
 ghost use Rattle.show_items.specs.Beginnings.{IfStopped};
 ghost use Rattle.show_items.specs.Groups.{fields_group, numbered};
 ghost use Rattle.show_items.specs.Judged.{ShowsOne, StopsOne};
 ghost use Rattle.show_items.specs.Records.{IsRecord, header_group, record_groups, room_of, section_group, section_groups};
+ghost use Rattle.show_items.specs.Parts.{part_groups};
 ghost use Rattle.show_items.specs.Sheets.{AddsGroups, GroupsBegun};
 ghost use Rattle.show_items.specs.Stops.{HasStop};
 ghost use Rattle.field_lines.specs.Records.{section_descriptor};
@@ -13,6 +14,7 @@ ghost use Rattle.field_lines.specs.Records.{section_descriptor};
 use crate::faults::fault_in;
 use crate::groups::Group;
 use crate::pages::{Pages, Stop};
+use crate::parts::{Part, add_parts, record_parts};
 use crate::sheet::{Form, Item, Sheet};
 use apei_bytes::{Guid, guid_at};
 use field_lines::{record_header, section_descriptor, section_layout};
@@ -47,24 +49,31 @@ pub(crate) fn show_record<P: Pages>(
     let mut sentence = String::new(sheet.alloc());
     add_record(&mut sentence, bytes)?;
     let fault = fault_in(sheet, Decoded::Record, bytes)?;
+    let parts = record_parts(sheet, bytes)?;
     sheet.begin(&item, sentence.as_str())?;
-    add_groups(sheet, pages, bytes)?;
+    add_groups(sheet, pages, bytes, &parts)?;
     sheet.end(&fault)?;
     sheet.turn(pages)
 }
 
-fn add_groups<P: Pages>(sheet: &mut Sheet<'_>, pages: &mut P, bytes: &[u8]) -> Result<(), Stop>
-    ensures groups { OnOk result (AddsGroups (record_groups bytes.now) (P.written pages.old) (P.written pages.new)
+fn add_groups<P: Pages>(
+    sheet: &mut Sheet<'_>,
+    pages: &mut P,
+    bytes: &[u8],
+    parts: &[Part<'_>],
+) -> Result<(), Stop>
+    ensures groups { OnOk result (AddsGroups (record_groups bytes.now ++ part_groups parts.now) (P.written pages.old) (P.written pages.new)
         sheet.old sheet.new) }
     ensures cause { HasStop (P.failures pages.old) (P.failures pages.new) result }
-    ensures stopped { IfStopped result (GroupsBegun (record_groups bytes.now)
+    ensures stopped { IfStopped result (GroupsBegun (record_groups bytes.now ++ part_groups parts.now)
         (P.written pages.old) (P.written pages.new) sheet.old) }
 {
     if sheet.form() == Form::Brief {
         return Ok(());
     }
     add_header(sheet, bytes)?;
-    add_sections(sheet, pages, bytes)
+    add_sections(sheet, pages, bytes)?;
+    add_parts(sheet, pages, parts)
 }
 
 fn add_header(sheet: &mut Sheet<'_>, bytes: &[u8]) -> Result<(), AllocError>

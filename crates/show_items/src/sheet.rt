@@ -1,7 +1,7 @@
 // The sheet on which the items of a file are shown.
-ghost use Rattle.std.specs.Prelude.{◌≡◌, ◌++◌, [], true, false, nat_lt, is_some, length, codes, None, OnErr, OnOk};
+ghost use Rattle.std.specs.Prelude.{◌≡◌, ◌++◌, [], true, false, nat_lt, is_some, length, codes, None, OnErr, OnOk, option_map};
 ghost use Rattle.show_items.specs.Groups.{comma};
-ghost use Rattle.show_items.specs.Items.{bad_json, end_as, fault_json, fault_text, extent_json, file_json, gap, heading_json, heading_of, kind_json, path_before};
+ghost use Rattle.show_items.specs.Items.{bad_json, end_as, fault_json, fault_text, extent_json, file_json, gap, heading_json, heading_of, kind_json, path_before, smbios_of};
 ghost use Rattle.show_items.specs.Sheets.{AddsGroups, AddsText, BeginsItem, EndsItem, GroupsBegun, KeepsItem};
 ghost use Rattle.show_items.specs.Stops.{HasStop};
 ghost use Rattle.show_items.specs.Texts.{bold, colored};
@@ -25,13 +25,15 @@ pub enum Form {
 
 /// How items are shown.
 #[derive(Clone, Copy, Debug, PartialEq, Eq)]
-pub struct Manner {
+pub struct Manner<'a> {
     pub form: Form,
     /// Whether the place of each field stands before it.
     pub places: bool,
     pub colored: bool,
     /// Whether the path stands before the items of each file.
     pub named: bool,
+    /// The structures of the machine's SMBIOS, where they are known: they name the parts that sections are about.
+    pub smbios: Option<&'a [u8]>,
 }
 
 /// An item: its word, where it begins in its file, where that is known, and its bytes.
@@ -57,7 +59,7 @@ const PLAIN: &str = "\x1b[0m";
 pub struct Sheet<'a> {
     alloc: Global,
     path: &'a str,
-    manner: Manner,
+    manner: Manner<'a>,
     pub(crate) out: Vec<u8>,
     items: u64,
     has_groups: bool,
@@ -66,9 +68,9 @@ pub struct Sheet<'a> {
 
 impl<'a> Sheet<'a> {
     /// The empty sheet of a file.
-    pub fn new(alloc: Global, path: &'a str, manner: Manner) -> Sheet<'a>
+    pub fn new(alloc: Global, path: &'a str, manner: Manner<'a>) -> Sheet<'a>
         ensures path { result.path.now ≡ path.now }
-        ensures manner { result.manner ≡ manner }
+        ensures manner { result.manner ≡ manner.entry }
         ensures blank { result.out.items ≡ [] }
         ensures none { result.items ≡ 0 }
         ensures ungrouped { result.has_groups ≡ false }
@@ -101,6 +103,16 @@ impl<'a> Sheet<'a> {
 
     pub(crate) fn alloc(&self) -> Global {
         self.alloc
+    }
+
+    /// The structures of the SMBIOS, where they are known and parts are shown.
+    pub(crate) fn smbios(&self) -> Option<&'a [u8]>
+        ensures { option_map (λ it. it.now) result ≡ smbios_of self.now.manner }
+    {
+        match self.manner.form {
+            Form::Brief => None,
+            Form::Text | Form::Json => self.manner.smbios,
+        }
     }
 
     pub(crate) fn form(&self) -> Form
@@ -213,7 +225,8 @@ impl<'a> Sheet<'a> {
         self.end_with(&None, true)
     }
 
-    fn end_with(&mut self, fault: &Option<Fault>, is_bad: bool) -> Result<(), AllocError>
+    /// Ends an item with its fault, and says whether it is bad.
+    pub(crate) fn end_with(&mut self, fault: &Option<Fault>, is_bad: bool) -> Result<(), AllocError>
         ensures { OnOk result (EndsItem fault.now is_bad self.old self.new) }
     {
         self.has_bad = is_bad || self.has_bad;

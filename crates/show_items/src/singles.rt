@@ -7,7 +7,7 @@ use crate::groups::Group;
 use crate::records::add_section;
 use crate::sheet::{Item, Sheet};
 use apei_bytes::Guid;
-use show_findings::{add_dmesg, add_machine_check, seen_at};
+use show_findings::{add_dmesg, add_machine_check, is_empty_block, seen_at};
 use std::alloc::AllocError;
 
 // The types of the sections whose bodies Linux shows in pstore.
@@ -79,6 +79,9 @@ pub(crate) fn show_blank(sheet: &mut Sheet<'_>, at: u64, bytes: &[u8]) -> Result
     let len = bytes.len();
     let mut sentence = String::new(sheet.alloc());
     match bytes {
+        _ if is_empty_block(bytes) => sentence.push_str(
+            "an empty error status block: no error is stored here",
+        )?,
         [0, ..] => write!(sentence, "{len} zeros: no error is stored here")?,
         _ => write!(
             sentence,

@@ -1,5 +1,5 @@
 // Tables (ACPI 6.4, sections 5.2.6, 18.3 and 18.5.1).
-ghost use Rattle.std.specs.Prelude.{◌≡◌, ◌<◌, ◌^◌, ◌+◌, [], ◌∷◌, length, IfOk, IsTrue, OnOk, Some};
+ghost use Rattle.std.specs.Prelude.{◌≡◌, ◌<◌, ◌^◌, ◌+◌, ◌||◌, [], ◌∷◌, length, is_some, IfOk, IsTrue, OnOk, Some};
 ghost use Rattle.field_lines.specs.Layouts.{is_sound_structure};
 ghost use Rattle.field_lines.specs.Code.{structure_of};
 ghost use Rattle.show_findings.specs.Places.{seen_number};
@@ -7,11 +7,12 @@ ghost use Rattle.show_items.specs.Beginnings.{IfStopped};
 ghost use Rattle.show_items.specs.Judged.{ShowsOne, StopsOne};
 ghost use Rattle.show_items.specs.Sheets.{AddsGroups, GroupsBegun};
 ghost use Rattle.show_items.specs.Stops.{HasStop};
-ghost use Rattle.show_items.specs.Tables.{IsTable, IsTableFault, fixed_group, groups_behind, instruction_group, instruction_groups, source_group, source_groups, table_groups, table_of};
+ghost use Rattle.show_items.specs.Tables.{IsTable, IsTableFault, fixed_group, groups_behind, instruction_group, instruction_groups, is_refused, source_group, source_groups, table_groups, table_of};
 
 use crate::faults::fault_in;
 use crate::groups::Group;
 use crate::pages::{Pages, Stop};
+use crate::refusals::{add_refusals, has_refusal};
 use crate::sheet::{Form, Item, Sheet};
 use field_lines::{
     Layout, bert_fields, erst_entry, erst_header, hest_header, source_layout, table_header,
@@ -47,13 +48,36 @@ pub(crate) fn show_table<P: Pages>(
         at,
         bytes,
     };
-    let mut sentence = String::new(sheet.alloc());
-    add_table(&mut sentence, bytes)?;
+    let refused = is_refused(bytes);
+    let sentence = table_sentence(sheet, bytes, refused)?;
     let fault = table_fault(sheet, bytes)?;
     sheet.begin(&item, sentence.as_str())?;
     add_groups(sheet, pages, bytes)?;
-    sheet.end(&fault)?;
+    sheet.end_with(&fault, is_bad(refused, &fault))?;
     sheet.turn(pages)
+}
+
+// Whether Linux refuses something of a table.
+fn is_refused(bytes: &[u8]) -> bool
+    ensures { result ≡ is_refused bytes.now }
+{
+    has_refusal(table_of(bytes), bytes)
+}
+
+fn is_bad(refused: bool, fault: &Option<Fault>) -> bool
+    ensures { result ≡ (refused || is_some fault.now) }
+{
+    refused || fault.is_some()
+}
+
+// The sentence of a table.
+fn table_sentence(sheet: &Sheet<'_>, bytes: &[u8], refused: bool) -> Result<String, AllocError> {
+    let mut sentence = String::new(sheet.alloc());
+    add_table(&mut sentence, bytes)?;
+    if refused {
+        sentence.push_str("; Linux does not take all of it")?;
+    }
+    Ok(sentence)
 }
 
 fn table_fault(sheet: &Sheet<'_>, bytes: &[u8]) -> Result<Option<Fault>, AllocError>
@@ -91,7 +115,8 @@ fn add_groups<P: Pages>(sheet: &mut Sheet<'_>, pages: &mut P, bytes: &[u8]) -> R
         return Ok(());
     }
     add_fixed(sheet, "header", &table_header(), HEADER, bytes)?;
-    add_behind(sheet, pages, bytes)
+    add_behind(sheet, pages, bytes)?;
+    add_refusals(sheet, pages, table_of(bytes), bytes)
 }
 
 // What stands behind the header, where the fields of the table are known.

@@ -64,8 +64,8 @@ fn add_byte(out: &mut Vec<u8>, byte: u8) -> Result<(), AllocError>
     }
 }
 
-// Adds a byte by its number.
-fn add_number_of(out: &mut Vec<u8>, byte: u8) -> Result<(), AllocError>
+/// Adds a byte by its number.
+pub(crate) fn add_number_of(out: &mut Vec<u8>, byte: u8) -> Result<(), AllocError>
     ensures { OnOk result (out.new.items ≡ out.old.items ++ codes "\\u00" ++ digit (byte / 16) ∷ digit (byte % 16) ∷ []) }
 {
     out.extend_from_slice(b"\\u00")?;

@@ -2,7 +2,7 @@
 use Rattle.std.proofs.Common.{◌≡◌, ℕ, suc, ◌+◌, ◌<◌, ◌≤◌, List, [], ◌∷◌, ◌++◌, length, take, drop, get_or, ap, sym, ◌∙◌, arith, eq-eqb, Some, None}
 use Rattle.std.proofs.lemmas.Bool.{eqb-true}
 use Rattle.std.proofs.Math.Seq.{split_at, get_or-append_seam}
-use Rattle.std.proofs.lemmas.List.{append_assoc, length-append, length-take-le, get_or-take, get_or_append_left}
+use Rattle.std.proofs.lemmas.List.{append_assoc, length-append, length-take-le, get_or-take}
 use Rattle.memchr.specs.Find.{IsFirstByte, is_byte}
 use Rattle.smbios.specs.Texts.{IsText, HasNoText, Follows, terminated}
 use Rattle.smbios.proofs.ListLemmas.{each_more, stands_more}
@@ -28,12 +28,6 @@ none_without_zero bytes none text rest is same =
     let size = ap (λ (it : List ℕ). length it) same ∙ length-append text (0 ∷ rest) in
     none (length text) (omega arith) (omega arith)
     (eq-eqb (get_or bytes (length text) 0) 0 (ap (λ (it : List ℕ). get_or it (length text) 0) same ∙ get_or-append_seam text 0 rest 0))
-
-pub none_at_zero : (bytes : List ℕ) (len : ℕ) → IsFirstByte (is_byte 0) bytes (Some len) → len ≡ 0 → HasNoText bytes
-none_at_zero bytes len found zero_is text rest is same =
-    let here : get_or bytes 0 0 ≡ 0 = ap (λ (n : ℕ). get_or bytes n 0) (sym zero_is) ∙ eqb-true (get_or bytes len 0) 0 found.1 in
-    is.bytes 0 (omega (arith, is.some))
-    (sym (get_or_append_left text (0 ∷ rest) 0 0 (omega (arith, is.some))) ∙ ap (λ (it : List ℕ). get_or it 0 0) (sym same) ∙ here)
 
 pub follow_more : (strings : List ℕ) (texts : List (List ℕ)) (rest after text : List ℕ) → Follows strings texts rest → IsText text
     → rest ≡ text ++ 0 ∷ after → Follows strings (texts ++ text ∷ []) after

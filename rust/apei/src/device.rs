@@ -2,6 +2,7 @@ use crate::error::{answer, Error, Failure, NONE};
 use crate::geometry::{make, Geometry};
 use crate::medium::Medium;
 use crate::raw;
+use crate::sized::sized;
 use alloc::vec::Vec;
 use core::cell::UnsafeCell;
 use core::fmt;
@@ -39,9 +40,9 @@ impl Addresses {
 /// The error record device over a medium (ACPI 6.4, section 18.5).
 ///
 /// Each change that an access makes due is made on the medium before the access returns. Where the medium fails one, the
-/// device goes on over what the medium then holds: its operation has ended, and the guest is told FAILED (ACPI 6.4, section
-/// 18.5.1) until it begins another one. The call answers [`Failure::Medium`], so that the program may say so. If the medium
-/// cannot be read either, no action is taken until a later access can read it.
+/// device goes on over what the medium then holds: its operation has ended, and the guest is told FAILED (ACPI 6.4,
+/// section 18.5.1) until it begins another one or is reset. The call answers [`Failure::Medium`], so that the program may
+/// say so. If the medium cannot be read either, no action is taken until a later access can read it.
 ///
 /// ```
 /// use apei::{format, Addresses, Device, Geometry, MemoryMedium, Window};
@@ -367,23 +368,5 @@ fn register_size(length: usize) -> Result<u32, Error> {
     match length {
         1 | 2 | 4 | 8 => Ok(length as u32),
         _ => Err(Error::Access),
-    }
-}
-
-const SHORT: u32 = 8;
-
-/// What a call gives that tells how many bytes it wants.
-fn sized(mut call: impl FnMut(&mut [u8], &mut u64) -> u32) -> Result<Vec<u8>, Error> {
-    let mut size = 0;
-    let mut bytes = Vec::new();
-    loop {
-        match call(&mut bytes, &mut size) {
-            SHORT if size as usize > bytes.len() => bytes.resize(size as usize, 0),
-            status => {
-                answer(status)?;
-                bytes.truncate(size as usize);
-                return Ok(bytes);
-            }
-        }
     }
 }

@@ -56,6 +56,16 @@ impl Geometry {
         Ok(size)
     }
 
+    /// The bytes of memory that the opening of a device of this geometry takes.
+    pub fn memory_size(&self) -> u64 {
+        let mut bytes = 0;
+        // SAFETY: both references live as long as the call.
+        match answer(unsafe { raw::apei_c_memory_size(&self.as_raw(), &mut bytes) }) {
+            Ok(()) => bytes,
+            Err(_) => 0,
+        }
+    }
+
     pub(crate) fn as_raw(self) -> raw::Geometry {
         raw::Geometry {
             sector: self.sector,

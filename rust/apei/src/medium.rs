@@ -14,7 +14,8 @@ pub trait Medium {
     /// All its bytes.
     fn contents(&mut self) -> Result<Vec<u8>, Self::Error>;
 
-    /// Programs bytes that are erased. Only the first change of a format programs a byte that may not be.
+    /// Programs bytes that are erased, within one page of 256 bytes. Only the first change of a format programs a byte that may not be
+    /// erased.
     fn program(&mut self, offset: u64, bytes: &[u8]) -> Result<(), Self::Error>;
 
     /// Makes the bytes of a sector 0xFF.

@@ -4,9 +4,9 @@
     tests/linux/cper/compare.py PRINT PROGRAM [BODIES] [SEED]
 
 PRINT is Linux's own code, compiled by `build`; PROGRAM is the built apei-show. BODIES of each section type that Linux knows are drawn at random, 200
-where it is not said. Each line that Linux prints has to be known here, and each value in it has to be that of apei-show's field of the standard's name.
+if it is not said. Each line that Linux prints has to be known here, and each value in it has to be that of apei-show's field of the standard's name.
 Nor does apei-show have a field that Linux prints in other blocks of this type and not in this one. The last line is 'N values of M blocks, K wrong'; the
-exit status is 0 where none is.
+exit status is 0 if none is.
 """
 
 import json
@@ -51,7 +51,7 @@ class Shown:
         self.groups = {group["group"]: group for group in item["groups"]}
 
     def at(self, place: Place) -> Item:
-        """The fields at a place; none where there is no such place."""
+        """The fields at a place; none if there is no such place."""
         found: Any = self.groups.get(place[0], {})
         for step in place[1:]:
             if isinstance(found, list):
@@ -99,13 +99,13 @@ def differs(shown: Shown, value: Value) -> Optional[str]:
         return None if flags is not None and flags >> wanted & 1 else f"{where}: flags {flags}, Linux has bit {wanted}"
     found = shown.found(place, name)
     if name == "multiple error" and found == [None]:
-        # Linux prints the number of errors also where the validation bits say that there is none.
+        # Linux prints the number of errors also if the validation bits say that there is none.
         return None
     return None if all(it == wanted for it in found) else f"{where}: {name} {found}, Linux has {wanted}"
 
 
 def row_differs(fields: Item, wanted: int) -> Optional[str]:
-    """Linux joins the row and its two further bits, and prints a row that is not valid where these bits are."""
+    """Linux joins the row and its two further bits, and prints a row that is not valid if these bits are."""
     row, further = plain(fields.get("row")), plain(fields.get("extended row")) or 0
     joined = further << 16 | (wanted % 2**16 if row is None else row)
     return None if joined == wanted else f"row {row}, further bits {further}: Linux has {wanted:#x}"

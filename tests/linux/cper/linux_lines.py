@@ -50,7 +50,7 @@ ARM_CONTEXTS = [
 ERROR_FLAGS = ["first error captured", "last error captured", "propagated error captured", "overflow occurred, error info is incomplete"]
 
 # A value that Linux prints: where it stands in apei-show's item (the group, and in it the part with its number and what is inside it), the name of the field,
-# and the value: a number or a text, or nothing where Linux says that it has no word for it.
+# and the value: a number or a text, or nothing if Linux says that it has no word for it.
 Place = tuple[Any, ...]
 Value = tuple[Place, str, Any]
 # How a line is read: what follows its pattern makes values of the text that was found.
@@ -95,7 +95,7 @@ DIGITS = r"([0-9a-f]+)"
 
 
 def line_rules(place: Place, names: dict[str, str]) -> list[Rule]:
-    """Lines of one number behind a word: `WORD: NUMBER`, and mostly what it means."""
+    """Lines of one number after a word: `WORD: NUMBER`, and mostly what it means."""
     return [(rf"{re.escape(word)}: {NUMBER}(?:, .*|: .*)?", numbers(place, name)) for word, name in names.items()]
 
 

@@ -174,6 +174,11 @@ def dmesg(chance: Chance) -> bytes:
     return (f"Panic#{1 + chance.below(9)} Part{1 + chance.below(3)}\n" + "".join(lines[: 1 + chance.below(3)])).encode()
 
 
+def cxl(chance: Chance) -> bytes:
+    """What a CXL device reports, whose fields are not shown."""
+    return chance.of.randbytes(8 * chance.below(20))
+
+
 BODIES = {
     names.PROCESSOR: processor,
     names.IA32: ia32,
@@ -190,6 +195,10 @@ BODIES = {
     names.CCIX: ccix,
     names.MACHINE_CHECK: machine_check,
     names.DMESG: dmesg,
+    names.CXL_PROTOCOL: cxl,
+    names.CXL_MEDIA: cxl,
+    names.CXL_DRAM: cxl,
+    names.CXL_MODULE: cxl,
 }
 
 
@@ -252,8 +261,11 @@ def table_header(chance: Chance, signature: bytes) -> bytes:
 
 
 def register(chance: Chance) -> bytes:
-    space = chance.few(4, 1)
-    return space + spell(chance.of.choice([8, 16, 32, 64]), 1) + chance.few(2, 1) + chance.few(5, 1) + chance.number(8)
+    """One that Linux takes, or one drawn at random."""
+    if chance.below(3):
+        return bytes([0, 64, 0, 4]) + chance.of.randbytes(6) + bytes(2)
+    space, address = chance.few(4, 1), chance.number(8) if chance.below(2) else chance.of.randbytes(5) + bytes(3)
+    return space + spell(chance.of.choice([0, 8, 16, 32, 64]), 1) + chance.few(2, 1) + chance.few(5, 1) + address
 
 
 def erst(chance: Chance) -> bytes:
@@ -265,7 +277,8 @@ def erst(chance: Chance) -> bytes:
 
 
 def notification(chance: Chance) -> bytes:
-    return chance.few(13, 1) + spell(28, 1) + chance.few(64, 2) + numbers(chance, 6, 4)
+    kind = chance.few(13, 1) if chance.below(4) else bytes(1)
+    return kind + spell(28, 1) + chance.few(64, 2) + chance.few(3, 4) + numbers(chance, 5, 4)
 
 
 def bank(chance: Chance) -> bytes:

@@ -5,7 +5,7 @@ import re
 from collections.abc import Iterator, Sequence
 from dataclasses import dataclass
 
-from apei import TOP, frames, names
+from apei import TOP, frames, made, names
 from apei.bytes import guid_bytes, number, spell
 from apei.flash import Geometry
 from apei.items import ITEMS, Bad
@@ -81,6 +81,7 @@ def cut_sections(chance: Chance) -> Iterator[Wanted]:
 
 def of_tables(chance: Chance, count: int) -> Iterator[Wanted]:
     yield of_kind("table", bodies.hest(chance, bodies.SOURCES))
+    yield of_kind("table", bodies.hest(chance, [9, 10] * 300))
     for _ in range(count):
         kinds = [chance.of.choice(bodies.SOURCES) for _ in range(chance.below(9))]
         some = [bodies.erst(chance), bodies.hest(chance, kinds), bodies.bert(chance)]
@@ -95,22 +96,23 @@ def of_dump(tables: list[bytes]) -> Wanted:
     text, items = b"", list[reading.Group]()
     for table in tables:
         items.append(reading.item("table", table, len(items), len(text)))
-        text += dump(table)
+        text += dump(table, 1 + len(table) % 2)
     return Wanted("acpi.txt", text, items)
 
 
-def dump(table: bytes) -> bytes:
+def dump(table: bytes, group: int = 1) -> bytes:
+    """With a space behind each group of so many bytes."""
     lines = [f"{table[:4].decode()} @ 0x{0xBFFE2B12:016X}"]
     for at in range(0, len(table), 16):
         row = table[at : at + 16]
         shown = "".join(chr(it) if 32 <= it < 127 else "." for it in row)
-        lines.append(f"    {at:04X}: " + "".join(f"{it:02X} " for it in row).ljust(48) + " " + shown)
+        lines.append(f"    {at:04X}: " + "".join(f"{row[it : it + group].hex().upper()} " for it in range(0, len(row), group)).ljust(48) + " " + shown)
     return ("\n".join(lines) + "\n\n").encode()
 
 
 def checked_items() -> Iterator[tuple[str, bytes]]:
     """The items that scripts of checks have: examples/ and tests/scripts."""
-    for path in sorted([*TOP.glob("examples/*.script"), *TOP.glob("tests/scripts/*/script")]):
+    for path in sorted([*TOP.glob("examples/*/script"), *TOP.glob("tests/scripts/*/*/script")]):
         text = path.read_bytes().decode("latin-1")
         for found in re.finditer(r"^(erst|hest|bert|record|block|write|table) ((?:[0-9a-fA-F]{2})+)$", text, re.MULTILINE):
             yield found[1], bytes.fromhex(found[2])
@@ -122,6 +124,12 @@ def of_scripts() -> Iterator[Wanted]:
         kind = {"record": "record", "write": "record", "block": "block"}.get(word, "table")
         if is_well(data[:4].decode("latin-1").lower() if kind == "table" else kind, data):
             yield of_kind(kind, data)
+
+
+def of_makers() -> Iterator[Wanted]:
+    """What the library's makers make."""
+    yield of_kind("block", made.block())
+    yield of_kind("record", made.record())
 
 
 def is_well(word: str, data: bytes) -> bool:
@@ -155,7 +163,7 @@ def store_images(chance: Chance) -> Iterator[bytes]:
             kind = chance.of.choice([names.MEMORY, names.PCIE, names.PROCESSOR])
             played.play("write " + bodies.record(chance, (kind, bodies.BODIES[kind](chance)), identifier=identifier).hex())
         yield played.image
-    for path in sorted(TOP.glob("tests/scripts/*/image")):
+    for path in sorted(TOP.glob("tests/scripts/*/*/image")):
         image = path.read_bytes()
         if seeming(image)[1:] == (SECTOR, PER_SLOT):
             yield image
@@ -195,6 +203,7 @@ def well_formed(chance: Chance, count: int) -> Iterator[Wanted]:
     yield from cut_sections(chance)
     yield from of_tables(chance, count)
     yield from of_scripts()
+    yield from of_makers()
     yield from of_stores(chance)
 
 

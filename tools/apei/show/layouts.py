@@ -1,7 +1,7 @@
 """The fields of tables, error records, status blocks and section bodies, read from the standards: apei-show is compared with them.
 
-Each line of a table is a field: its offset, its width in bytes, the validation bit that says whether it is there (`-` where none does),
-its name, and behind a colon how it is read where it isn't a number: a GUID, text, a time, a register (the generic address structure),
+Each line of a table is a field: its offset, its width in bytes, the validation bit that says whether it is there (`-` if none does),
+its name, and after a colon how it is read if it isn't a number: a GUID, text, a time, a register (the generic address structure),
 bytes up to the end, or some bits of a number (`bits LOW COUNT`). UEFI 2.8, Appendix N; ACPI 6.4, chapter 18.
 """
 
@@ -29,7 +29,7 @@ class Part:
     valid_at: int = 0
     valid_width: int = 8
     size: int = 0
-    # Where the part says how many bytes stand behind its first `more`.
+    # Where the part says how many bytes stand after its first `more`.
     told: Field | None = None
     more: int = 0
 

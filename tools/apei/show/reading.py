@@ -11,6 +11,7 @@ from apei.bytes import guid, number
 from apei.names import LINUX
 from apei.show import layouts
 from apei.show.layouts import Field, Layout, Part
+from apei.show.refusals import Refusal, refusals
 
 Group = dict[str, Any]
 
@@ -171,21 +172,39 @@ def table_groups(data: bytes) -> list[Group]:
         found.append(group("table", own, data, 0))
     if data[:4] == b"ERST":
         found += [group("entry", layouts.ERST_ENTRY, data[at : at + 32], at, index) for index, at in enumerate(entries(data))]
-    return found + sources(data) if data[:4] == b"HEST" else found
+    if data[:4] == b"HEST":
+        found += sources(data)
+    return found + refused_groups(data)
 
 
 def entries(data: bytes) -> range:
     return range(48, 48 + 32 * number(data, 44, 4), 32)
 
 
-def sources(data: bytes) -> list[Group]:
+def source_places(data: bytes) -> list[tuple[int, int]]:
+    """Where each error source begins and ends."""
     at, found = 40, []
-    for index in range(number(data, 36, 4)):
+    for _ in range(number(data, 36, 4)):
         size, layout = layouts.SOURCES[number(data, at, 2)]
         size += sum(part.size * count_of(part.count, data[at:]) for part in layout.parts)
-        found.append(group("source", layout, data[at : at + size], at, index))
+        found.append((at, at + size))
         at += size
     return found
+
+
+def sources(data: bytes) -> list[Group]:
+    each = enumerate(source_places(data))
+    return [group("source", layouts.SOURCES[number(data, at, 2)][1], data[at:end], at, index) for index, (at, end) in each]
+
+
+def refused(data: bytes) -> list[Refusal]:
+    """What Linux will not take of a table."""
+    is_erst, is_hest = data[:4] == b"ERST", data[:4] == b"HEST"
+    return refusals(data, list(entries(data)) if is_erst else [], source_places(data) if is_hest else [])
+
+
+def refused_groups(data: bytes) -> list[Group]:
+    return [{"offset": it.at, "group": it.group, "index": it.index, "guid": None, "by Linux": Cell(it.at, it.why)} for it in refused(data)]
 
 
 def record_length(data: bytes) -> int:

@@ -1,11 +1,10 @@
 // The firmware's turns of a plain handover, by its own end, its blocks and the memory alone.
-ghost use Rattle.std.specs.Prelude.{◌<◌};
-ghost use Rattle.ghes_ack.specs.declared.events.Side.TheVariants.{Firmware as OfFirmware};
-ghost use Rattle.ghes_ack.specs.Machine.{Machine, Filling};
+ghost use Rattle.std.specs.Prelude.{◌<◌, All};
+ghost use Rattle.ghes_ack.specs.Machine.{Filling, Fits};
 ghost use Rattle.ghes_ack.specs.Windows.{HasAddressed};
-ghost use Rattle.ghes_hub.specs.Plain.{PlainStands};
+ghost use Rattle.ghes_ack.specs.WindowQueues.{held_of};
 ghost use Rattle.ghes_ack.specs.Handovers.{over};
-ghost use Rattle.ghes_hub.specs.PlainSides.{IsSound, Turns, FindsClear, FirmwareIsAble, FirmwareTurns};
+ghost use Rattle.ghes_hub.specs.PlainSides.{IsSound, FindsClear, FirmwareMakes, FirmwareIsAble, FirmwareTurns};
 ghost use Rattle.ghes_ack.specs.OwnTurns.{firmware_at};
 ghost use Rattle.ghes_ack.specs.Sides.{state_of};
 
@@ -46,11 +45,11 @@ fn fill_or_publish(
     ram: &mut Ram,
 ) -> (FirmwareEnd, Event)
     requires sound { IsSound Filling blocks.old }
-    requires stands { (m : Machine) × PlainStands (state_of Filling blocks.old) ram.old m }
+    requires windows { HasAddressed blocks.old.map.status blocks.old.map.window ram.old }
+    requires fits { All (Fits blocks.old.map.window.len) (held_of blocks.old) }
     ensures sound { IsSound (firmware_at result.0) blocks.new }
-    ensures turns { (m : Machine) → PlainStands (state_of Filling blocks.old) ram.old m
-        → Turns OfFirmware result.1 (over (state_of Filling blocks.old) ram.old)
-        (over (state_of (firmware_at result.0) blocks.new) ram.new) m }
+    ensures makes { FirmwareMakes (state_of Filling blocks.old) ram.old result.1
+        (state_of (firmware_at result.0) blocks.new) ram.new }
 {
     let Some(block) = blocks.next() else {
         return (FirmwareEnd::Writes(write), Event::Idle);

@@ -13,4 +13,5 @@ returns c =
     let bytes = c.in_ok-arg-3.ensures.shape c.flag-3.ensures.local ∙ ap₂ with_rule brief c.flag-3.ensures.rule in
     let strict = c.in_ok-arg-4.ensures.shape c.flag-4.ensures.local ∙ ap₂ with_rule bytes c.flag-4.ensures.rule in
     let color = c.in_ok-arg-5.ensures.shape c.option.ensures.local ∙ ap₂ with_rule strict c.option.ensures.rule in
-    c.in_ok-command.ensures.shape c.files.ensures.local ∙ ap₂ with_rule color c.files.ensures.rule
+    let smbios = c.in_ok-arg-6.ensures.shape c.option-2.ensures.local ∙ ap₂ with_rule color c.option-2.ensures.rule in
+    c.in_ok-command.ensures.shape c.files.ensures.local ∙ ap₂ with_rule smbios c.files.ensures.rule

@@ -1,6 +1,6 @@
 use Rattle.std.proofs.Common.{false, [], length, Some, None, refl}
 use Rattle.std.proofs.lemmas.Result.{on_ok_weaker}
-use Rattle.show_items.specs.Items.{Shown}
+use Rattle.show_items.specs.Items.{Shown, smbios_of}
 use Rattle.show_items.proofs.ItemLemmas.{shown_alone}
 use Rattle.show_items.proofs.SheetLemmas.{no_groups}
 use Rattle.show_items.proofs.singles.show_sentence.Goals as goal
@@ -12,6 +12,7 @@ returns c =
       groups = [];
       fault = None;
       bad = false;
+      smbios = smbios_of c.args.sheet.now.manner;
     } in
     on_ok_weaker c.end.result
     (λ ends. (
@@ -21,6 +22,6 @@ returns c =
         groups = refl;
         judged = record { none = refl; is_bad = refl };
       },
-      shown_alone item c.args.sheet.now c.begin.new.self c.begin.new.self c.end.new.self c.in_ok-begin.ensures (no_groups (Some []) c.begin.new.self) ends,
+      shown_alone item c.args.sheet.now c.begin.new.self c.begin.new.self c.end.new.self c.in_ok-begin.ensures (no_groups (Some []) c.begin.new.self) ends refl,
     ))
     c.end.ensures

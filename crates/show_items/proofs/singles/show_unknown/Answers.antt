@@ -1,7 +1,7 @@
 use Rattle.std.proofs.Common.{true, List, [], ◌∷◌, ◌∙◌, ℕ, length, codes, Some, None, refl, ap}
 use Rattle.std.proofs.lemmas.Result.{on_ok_weaker}
 use Rattle.show_items.specs.Groups.{bytes_group, single}
-use Rattle.show_items.specs.Items.{Shown}
+use Rattle.show_items.specs.Items.{Shown, smbios_of}
 use Rattle.show_items.proofs.ItemLemmas.{first_part, shown_alone}
 use Rattle.show_items.proofs.singles.show_unknown.Goals as goal
 
@@ -13,6 +13,7 @@ returns c =
       groups = bytes_group (single (codes "bytes")) c.seen_at.result.now ∷ [];
       fault = None;
       bad = true;
+      smbios = smbios_of c.args.sheet.now.manner;
     } in
     on_ok_weaker c.end_as_bad.result
     (λ ends. (
@@ -22,6 +23,6 @@ returns c =
         groups = ap (λ (first : List ℕ). bytes_group (single (codes "bytes")) first ∷ []) (c.seen_at.ensures ∙ first_part bytes 16);
         judged = record { none = refl; is_bad = refl };
       },
-      shown_alone item c.args.sheet.now c.begin.new.self c.add_bytes.new.self c.end_as_bad.new.self c.in_ok-begin.ensures c.in_ok-add_bytes.ensures ends,
+      shown_alone item c.args.sheet.now c.begin.new.self c.add_bytes.new.self c.end_as_bad.new.self c.in_ok-begin.ensures c.in_ok-add_bytes.ensures ends refl,
     ))
     c.end_as_bad.ensures

@@ -3,6 +3,7 @@ use Rattle.record_store.specs.Store.{StoreView, abandoned}
 use Rattle.erst_device.specs.DeviceState.{DeviceState}
 use Rattle.erst_device.specs.Registers.{seen}
 use Rattle.erst_port.specs.Failures.{ended_with}
+use Rattle.erst_port.specs.Parts.{nothing_made}
 use Rattle.erst_port.specs.PortState.{PortState, state_of}
 use Rattle.erst_port.proofs.LoadLemmas.{abandoned_idle}
 use Rattle.erst_port.proofs.port.Port.failed.Goals as goal
@@ -21,6 +22,6 @@ returns c =
     ∙ ap (λ (p : PortState). ended_with opened.device.store p.device) c.self.view_is in (
       opened,
       anew,
-      ap (λ (d : DeviceState). state_of d inside.range.items inside.table.items inside.addresses inside.origin 0) device
-          ∙ ap (λ (p : PortState). record p { device = ended_with opened.device.store c.args.self.now.device; made = 0 }) c.self.view_is,
+      ap (λ (d : DeviceState). state_of d inside.range.items inside.table.items inside.addresses inside.origin nothing_made) device
+          ∙ ap (λ (p : PortState). record p { device = ended_with opened.device.store c.args.self.now.device; made = nothing_made }) c.self.view_is,
     )

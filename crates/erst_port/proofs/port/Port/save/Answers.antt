@@ -17,7 +17,7 @@ pub returns : goal.returns
 returns c =
     let port : PortState = state_of c.self.inside.device c.self.inside.range.items c.self.inside.table.items c.self.inside.addresses c.self.inside.origin c.self.inside.made in
     let back = sym c.self.view_is in
-    let made : IsMade port = subst IsMade back (same_count c.args.self.now.made c.args.self.now.device.store.flash.steps c.if-is_due.ensures.1) in
+    let made : IsMade port = subst IsMade back (same_count c.args.self.now.made.changes c.args.self.now.device.store.flash.steps c.if-is_due.ensures.1) in
     let layout = c.geometry-geometry.ensures ∙ ap (λ (p : PortState). p.device.store.layout) back in
     let second : Wrote c.write_bytes-end.new.out c.write_bytes.new.out c.write_bytes-end.result c.write_bytes.result c.self.inside.range.items =
     subst (Wrote c.write_bytes-end.new.out c.write_bytes.new.out c.write_bytes-end.result c.write_bytes.result) c.deref.ensures.value c.write_bytes.ensures.wrote in

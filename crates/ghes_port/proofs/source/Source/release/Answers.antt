@@ -29,6 +29,7 @@ invariant_of-self c =
         count = omega (arith, count, popped, pushed);
         counted = omega (arith, shorter, counted, popped);
         few = room.few;
+        short = room.short;
         queue_room = omega (arith, queue_room, one);
         spare_room = omega (arith, spare_room, other);
         queue_wide = subst (λ (vs : List _). All (IsWide len) vs) (sym c.in-Some.ensures.rest) (All-drop (IsWide len) 1 c.self.inside.queue.items room.queue_wide);

@@ -65,6 +65,7 @@ invariant_of-self-2 c =
         count = omega (arith, count, popped, pushed);
         counted = omega (arith, longer, counted, pushed);
         few = room.few;
+        short = room.short;
         queue_room = omega (arith, queue_room, one);
         spare_room = omega (arith, spare_room, other);
         queue_wide = rw c.push_back_reserved.ensures.items (All-more (IsWide len) c.self.inside.queue.items c.extend_from_slice.new.self room.queue_wide new_wide);

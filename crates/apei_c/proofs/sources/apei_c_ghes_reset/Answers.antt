@@ -1,0 +1,7 @@
+use Rattle.apei_c.proofs.HoldingLemmas.{on_held}
+use Rattle.apei_c.proofs.sources.apei_c_ghes_reset.Goals as goal
+
+pub returns : goal.returns
+returns c =
+    let after = rw c.in-Some.is at c.sources.follows.holds c.reset.new.sources in
+    on_held _ _ _ _ c.in-Some.sources.now c.reset.new.sources c.reset.result c.in-Some.ensures.some after c.number-2.ensures c.reset.ensures

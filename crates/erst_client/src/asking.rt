@@ -1,0 +1,130 @@
+// A request that makes no access itself, and what its answer says.
+ghost use Rattle.std.specs.Prelude.{◌≡◌, true};
+ghost use Rattle.erst_interp.specs.Told.{demanded, ended, is_settled, is_sound_state};
+ghost use Rattle.erst_client.specs.Asking.{asking_first, asking_answered, counted, named, counted_by, named_by, AskingMoves};
+
+use crate::errors::ClientError;
+use crate::requests::program_for;
+use apei_space::SpaceFault;
+use erst_entries::{Action, ErstTable};
+use erst_interp::{Budget, Demand, RunState, RunStop, answered, demanded, first_state, settled};
+
+/// The run of an action's program that is given no value: GET_RECORD_COUNT, GET_RECORD_IDENTIFIER, or what an attaching
+/// client asks for.
+#[derive(Clone, Copy)]
+pub struct Asking {
+    pub action: Action,
+    pub state: RunState,
+    /// The steps that are left.
+    pub left: Budget,
+}
+
+impl Asking {
+    /// Where the run of an action's program begins.
+    pub fn first(table: &ErstTable, action: Action, steps: Budget) -> Asking
+        ensures first { result ≡ asking_first table.now.entries action steps }
+        ensures sound { is_sound_state result.state ≡ true }
+    {
+        Asking {
+            action,
+            state: first_state(&program_for(table, action)),
+            left: steps,
+        }
+    }
+
+    /// Goes on up to the next access, or to the end.
+    pub fn settled(self, table: &ErstTable) -> Asking
+        requires { is_sound_state self.state ≡ true }
+        ensures moves { AskingMoves table.now.entries self result }
+        ensures settled { is_settled result.state ≡ true }
+        ensures sound { is_sound_state result.state ≡ true }
+    {
+        let mut left = self.left;
+        let state = settled(&program_for(table, self.action), 0, self.state, &mut left);
+        Asking {
+            state,
+            left,
+            ..self
+        }
+    }
+
+    /// The access that comes next.
+    pub fn demand(&self) -> Option<Demand>
+        ensures { result ≡ demanded self.now.state }
+    {
+        demanded(&self.state)
+    }
+
+    /// Where its answer leads.
+    pub fn answered(self, answer: Result<u64, SpaceFault>) -> Asking
+        requires { is_sound_state self.state ≡ true }
+        ensures answered { result ≡ asking_answered self answer }
+        ensures sound { is_sound_state result.state ≡ true }
+    {
+        let mut left = self.left;
+        let state = answered(self.state, &mut left, answer);
+        Asking {
+            state,
+            left,
+            ..self
+        }
+    }
+
+    /// The answer of the program, once it has ended.
+    pub fn result(&self) -> Option<Result<u64, RunStop>>
+        ensures { result ≡ ended self.now.state }
+    {
+        match self.state {
+            RunState::Ended(answer) => Some(answer),
+            _ => None,
+        }
+    }
+
+    /// How many records are stored, once GET_RECORD_COUNT has ended.
+    pub fn count(&self) -> Option<Result<u64, ClientError>>
+        ensures { result ≡ counted_by (ended self.now.state) }
+    {
+        match self.result() {
+            Some(answer) => Some(counted(answer)),
+            None => None,
+        }
+    }
+
+    /// The identifier at the firmware's cursor, once GET_RECORD_IDENTIFIER has ended; `None` where there is none.
+    pub fn identifier(&self) -> Option<Result<Option<u64>, ClientError>>
+        ensures { result ≡ named_by (ended self.now.state) }
+    {
+        match self.result() {
+            Some(answer) => Some(named(answer)),
+            None => None,
+        }
+    }
+}
+
+/// What GET_RECORD_COUNT says.
+pub fn counted(answer: Result<u64, RunStop>) -> Result<u64, ClientError>
+    ensures { result ≡ counted answer }
+{
+    match answer {
+        Ok(count) => {
+            if count == u64::from(u32::MAX) {
+                Err(ClientError::Hardware)
+            } else {
+                Ok(count)
+            }
+        }
+        Err(stop) => Err(ClientError::Stopped(stop)),
+    }
+}
+
+/// What GET_RECORD_IDENTIFIER says.
+pub fn named(answer: Result<u64, RunStop>) -> Result<Option<u64>, ClientError>
+    ensures { result ≡ named answer }
+{
+    match answer {
+        Ok(0) => Err(ClientError::Hardware),
+        Ok(u64::MAX) => Ok(None),
+        Ok(id) => Ok(Some(id)),
+        Err(stop) => Err(ClientError::Stopped(stop)),
+    }
+}

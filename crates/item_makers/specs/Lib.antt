@@ -1,0 +1,5 @@
+pub mod Severities
+pub mod Sizes
+pub mod Given
+pub mod Blocks
+pub mod Records

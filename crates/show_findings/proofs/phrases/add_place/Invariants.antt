@@ -1,0 +1,12 @@
+use Rattle.std.proofs.Common.{◌≡◌, ◌++◌, false, length, map, string_bytes}
+use Rattle.field_lines.specs.Code.{structure_of}
+use Rattle.show_findings.specs.Phrases.{marks_of, phrase_of, place_text}
+use Rattle.show_findings.proofs.phrases.add_place.Given as goal
+
+abbrev pub invariant-loop-phrases : goal.invariant-loop-phrases
+invariant-loop-phrases l =
+    string_bytes l.out ++ place_text (marks_of l.brackets) l.begun (structure_of l.layout) l.body (map phrase_of l.phrases)
+    ≡ string_bytes l.initial.out ++ place_text (marks_of l.brackets) false (structure_of l.layout) l.body (map phrase_of l.initial.phrases)
+
+abbrev pub decreases-loop-phrases : goal.decreases-loop-phrases
+decreases-loop-phrases l = length l.phrases
