@@ -69,8 +69,9 @@ SOURCES = [
         {
             "MdePkg/Include/Guid/Cper.h": "E",
             "MdePkg/Include/IndustryStandard/Acpi64.h": "EFI_ACPI_6_4_(?:(?:BOOT_|GENERIC_)?ERROR|ERST|HARDWARE|GENERIC_|IA32_|PCI_EXPRESS_|FIRMWARE_FIRST)",
+            "MdePkg/Include/IndustryStandard/SmBios.h": r"SMBIOS_(?:STRUCTURE|TYPE_|TABLE_(?:TYPE(?:9|16|17)\b|ENTRY_POINT|3_0))",
         },
-        "\n".join(f"#include <{name}>" for name in ("Uefi/UefiBaseType.h", "Guid/Cper.h", "IndustryStandard/Acpi64.h")),
+        "\n".join(f"#include <{name}>" for name in ("Uefi/UefiBaseType.h", "Guid/Cper.h", "IndustryStandard/Acpi64.h", "IndustryStandard/SmBios.h")),
         ("-std=gnu11", "-fshort-wchar", "-DMDE_CPU_X64", f"-I{EDK2}/MdePkg/Include", f"-I{EDK2}/MdePkg/Include/X64"),
     ),
 ]

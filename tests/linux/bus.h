@@ -22,6 +22,18 @@ extern struct bus_counts bus_counts;
 
 void bus_attach(struct device *device, uint64_t base);
 
+/* Accesses of the machine at physical addresses: false where the bus or the device refuses one. */
+bool bus_read(uint64_t address, unsigned size, uint64_t *value);
+bool bus_write(uint64_t address, unsigned size, uint64_t value);
+bool bus_get(uint64_t address, uint8_t *bytes, size_t size);
+bool bus_put(uint64_t address, const uint8_t *bytes, size_t size);
+
+/* As bus_get, but it is none of the machine's accesses. */
+bool bus_look(uint64_t address, uint8_t *bytes, size_t size);
+
+/* Whether the device's window has all these bytes. */
+bool bus_has(const char *what, uint64_t address, uint64_t size);
+
 /* The machine stops before the access, or within the change, of this number, counted from this call. */
 void bus_stop_before(uint64_t access);
 void bus_stop_within(uint64_t change, enum tear tear);
@@ -32,5 +44,9 @@ void bus_fail_change(uint64_t change, enum tear tear);
 
 /* The last access that the bus or the device refused, in words; "" where there was none. */
 const char *bus_refusal(void);
+bool bus_refuse(const char *what, uint64_t address, uint64_t size);
+
+/* Forgets what the driver before has mapped and claimed (memory.c). */
+void memory_forget(void);
 
 #endif

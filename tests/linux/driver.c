@@ -98,6 +98,7 @@ int driver_start_on(struct device *device, uint64_t base)
 
     table_size = device_table(device, base, table, sizeof table);
     bus_attach(device, base);
+    memory_forget();
     load();
     status = start();
     return status ? status : backend ? 0 : -ENODEV;

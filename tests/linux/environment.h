@@ -3,7 +3,7 @@
  *
  * `run` makes a header of one line, which includes this one, for each of the kernel's headers that the driver names and
  * that the kernel does not share with its tables and records. So the driver compiles as it stands. What it calls stands in
- * environment.c; its accesses of memory end in bus.c.
+ * environment.c; its accesses of memory end in memory.c.
  */
 #ifndef ENVIRONMENT_H
 #define ENVIRONMENT_H

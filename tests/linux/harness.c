@@ -148,7 +148,7 @@ void make_record(uint8_t *record, uint64_t id, size_t length, uint32_t seed)
     memcpy(record, "CPER", 4);
     put(record + 4, 0x0100, 2);
     put(record + 6, 0xFFFFFFFF, 4);
-    put(record + 10, body > HEADER, 2);
+    put(record + 10, body == HEADER + DESCRIPTOR, 2);
     put(record + 12, 1, 4);
     put(record + 20, length, 4);
     put(record + 24, seed, 8);

@@ -14,7 +14,7 @@ VALID = "valid:"
 ALONE = "alone "
 # What has the formats of the standards, and no numbers of its own.
 CRATES = "field_lines", "cper_frame", "ghes_block", "hest_sources", "erst_entries", "apei_tables"
-FORMATS = *(f"crates/{name}/" for name in CRATES), "tools/apei/show/layouts.py", "tools/apei/names.py", "docs/FORMATS.md"
+FORMATS = *(f"crates/{name}/" for name in CRATES), "crates/smbios/specs/", "crates/machine_parts/specs/", "tools/apei/show/layouts.py", "tools/apei/names.py", "docs/FORMATS.md"
 
 
 @dataclass

@@ -177,6 +177,8 @@ def rows_of(path: Path) -> Iterator[Row]:
     yield from inside_rows(file, text)
     if "length_with_banks" in text:
         yield from source_rows(file, text)
+    if file.startswith(("crates/smbios/specs/", "crates/machine_parts/specs/")):
+        yield from smbios_rows(file, text)
     if path.suffix == ".rt":
         yield from code_rows(file, text)
         yield from code_numbers(file, text)
@@ -198,6 +200,49 @@ def source_rows(file: str, text: str) -> Iterator[Row]:
         for kind in re.findall(r"\d+", found[1] or found[4]):
             yield Row(file, "source lengths", kind, int(found[2] or found[5]))
             yield Row(file, "bank counts", kind, int(found[3] or found[6]), 1)
+
+
+# What is read of a System Management BIOS table, as the definitions of smbios and machine_parts write it.
+SMBIOS_DEFINITIONS = (
+    (r"^kind_of one = number_at one\.formatted (\d+) (\d+)", "structure", "type"),
+    (r"pub len : number_at one\.formatted (\d+) (\d+)", "structure", "length"),
+    (r"^is_wanted \(Handle .* has_number one (\d+)", "structure", "handle"),
+    (r"^is_wanted \(Slot .* has_number one (\d+)", "system_slot", "number"),
+    (r"^is_wanted \(Slot .*kind_of one == (\d+)", "structure_types", "system slot"),
+    (r"^ends_table one = kind_of one == (\d+)", "structure_types", "end"),
+    (r"FindsHandle (\d+) number table found\) \(λ one\. IsMemoryDevice", "structure_types", "memory device"),
+    (r"FindsHandle (\d+) number table found\) \(λ one\. IsMemoryArray", "structure_types", "memory array"),
+    (r"^size_of one =\n.*?field one (\d+) (\d+)", "memory_device", "size"),
+    (r"^size_of one =\n.*?field one \d+ .*?field one (\d+) (\d+)", "memory_device", "extended size"),
+    (r"^speed_of one =\n.*?field one (\d+) (\d+)", "memory_device", "speed"),
+    (r"^speed_of one =\n.*?field one \d+ .*?field one (\d+) (\d+)", "memory_device", "extended speed"),
+    (r"pub location : array\.location ≡ number_told one (\d+) (\d+)", "memory_array", "location"),
+    (r"pub devices : array\.devices ≡ number_told one (\d+) (\d+)", "memory_array", "devices"),
+    (r"\(λ one\. IsTextAt one (\d+)", "system_slot", "label"),
+    (r'\(codes "_SM3_"\) (\d+) then', "entry_point_64", "size"),
+    (r'\(codes "_SM3_"\) \d+ then part file \(number_at file (\d+) (\d+)\)', "entry_point_64", "address"),
+    (r'\(codes "_SM3_"\) \d+ then part file \([^)]*\) \(number_at file (\d+) (\d+)\)', "entry_point_64", "length"),
+    (r'\(codes "_SM_"\) (\d+) then', "entry_point_32", "size"),
+    (r'\(codes "_SM_"\) \d+ then part file \(number_at file (\d+) (\d+)\)', "entry_point_32", "address"),
+    (r'\(codes "_SM_"\) \d+ then part file \([^)]*\) \(number_at file (\d+) (\d+)\)', "entry_point_32", "length"),
+)
+SMBIOS_TEXT = re.compile(r"pub (\w+) : IsTextAt one (\d+)")
+# By which number a section names a part.
+NAMING = re.compile(r"^(\w+) (Memory2?|PciExpress) body = (?:.*number / (8)\) \()?number_([24]) body (\d+) (\d+)", re.M)
+NAMED_IN = {"Memory": "memory_error_fields", "Memory2": "memory_error_2_fields", "PciExpress": "pci_express_fields"}
+# Numbers that say how long what they stand for is, by their tables: these have no width of their own.
+SMBIOS_WIDTHS = {("structure", "handle"): 2, ("system_slot", "number"): 2, ("system_slot", "label"): 1}
+
+
+def smbios_rows(file: str, text: str) -> Iterator[Row]:
+    for pattern, table, name in SMBIOS_DEFINITIONS:
+        for found in re.finditer(pattern, text, re.S | re.M if r"\n" in pattern else re.M):
+            at, *width = (int(it) for it in found.groups())
+            yield Row(file, table, name, at, width[0] if width else SMBIOS_WIDTHS.get((table, name)))
+    yield from (Row(file, "memory_device", name, int(at), 1) for name, at in SMBIOS_TEXT.findall(text))
+    for name, section, is_shifted, width, bit, at in NAMING.findall(text):
+        bits = (3, 13) if is_shifted else (None, None)
+        yield Row(file, NAMED_IN[section], name.replace("_", " "), int(at), int(width), int(bit), *bits)
 
 
 # The tools' layouts by the tables of the crates that have the same fields.

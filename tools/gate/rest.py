@@ -93,9 +93,19 @@ def library(said: Path, room: Path) -> None:
         return
     print()
     tool("embed", *sorted(folder.glob("*.a")))
+    client(folder / "llvm.a")
     so_far = room / "said"
     shutil.copyfile(said, so_far)
     tool("release", folder, so_far)
+
+
+def client(archive: Path) -> None:
+    """The library's client in the place of Linux's driver, and over firmwares that answer anything."""
+    done = subprocess.run([TOP / "tests/client/scenarios", archive], stdout=subprocess.PIPE, stderr=subprocess.STDOUT, text=True, check=False)
+    if done.returncode:
+        raise Wrong(f"the client:\n{done.stdout}")
+    lines = done.stdout.splitlines()
+    print("the client:", "; ".join(it for it in lines if it.endswith((" failed", " wrong"))))
 
 
 def linux(room: Path) -> None:
