@@ -3,7 +3,7 @@
     tools/run counts [--check]
 
 Crates, functions, definitions and edits that must fail are counted in the sources. With --check nothing is written; the exit status is 1 if the page
-says something else, or if README, PROOFS or all pages together are longer than they may be.
+says something else, if README, PROOFS or all pages together are longer than they may be, or a line of a definition or proof is too wide.
 """
 
 import sys
@@ -16,6 +16,8 @@ from dev.definitions import contract, defined_at, definitions, named_in, passed_
 PAGE = TOP / "docs" / "SPEED.md"
 BEGIN, END = "<!-- begin: tools/dev/counts.py -->\n", "<!-- end: tools/dev/counts.py -->\n"
 README_WORDS, PROOFS_LINES, ALL_WORDS = 900, 300, 45_000
+# Columns of a line of a definition or a proof.
+WIDEST = 200
 
 
 def rows() -> Iterator[tuple[str, str]]:
@@ -50,10 +52,17 @@ def too_long() -> Iterator[str]:
             yield f"there are {number} {what}, and may be {most}"
 
 
+def too_wide() -> Iterator[str]:
+    for path in sorted((TOP / "crates").glob("*/[ps]*/**/*.antt")):
+        for number, line in enumerate(path.read_text(encoding="utf-8").splitlines(), 1):
+            if len(line) > WIDEST:
+                yield f"{path.relative_to(TOP)}:{number} has {len(line)} columns, and may have {WIDEST}"
+
+
 def main(words: list[str]) -> int:
     before, _, rest = PAGE.read_text().partition(BEGIN)
     said, _, after = rest.partition(END)
-    long = list(too_long())
+    long = [*too_long(), *too_wide()]
     print(*long, sep="\n", end="\n" if long else "", file=sys.stderr)
     if said == table():
         return 1 if long else 0

@@ -144,7 +144,7 @@ class Stand(Builds):
     def start(self) -> "subprocess.Popen[str]":
         """A build that has begun to prove."""
         command: list[str | Path] = [self.folder / "tools" / "build", "last"]
-        started = subprocess.Popen(command, cwd=self.folder, env=self.environment, stderr=subprocess.PIPE, text=True, preexec_fn=heed_ctrl_c)
+        started = subprocess.Popen(command, cwd=self.folder, env=self.environment, stderr=subprocess.PIPE, text=True, preexec_fn=heed_all)
         assert started.stderr
         for line in started.stderr:
             if line.startswith("apei: proving"):
@@ -152,8 +152,13 @@ class Stand(Builds):
         return started
 
 
-def heed_ctrl_c() -> None:
-    signal.signal(signal.SIGINT, signal.SIG_DFL)
+# What tells a build to end. Where this tool runs in the background, or by nohup, some are ignored.
+ENDS = signal.SIGINT, signal.SIGTERM, signal.SIGHUP
+
+
+def heed_all() -> None:
+    for number in ENDS:
+        signal.signal(number, signal.SIG_DFL)
 
 
 def waits(stand: Stand) -> None:
@@ -184,7 +189,7 @@ def tells(stand: Stand) -> None:
 
 def ends(stand: Stand) -> None:
     """A build that is told to end ends, and the next one goes on."""
-    for number in (signal.SIGINT, signal.SIGTERM, signal.SIGHUP):
+    for number in ENDS:
         stand.write("low/src/lib.rt", LOW + f"// {number}\n")
         started = stand.start()
         started.send_signal(number)
