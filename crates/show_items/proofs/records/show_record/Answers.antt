@@ -31,6 +31,13 @@ returns-clause-shown g c =
       item,
       record {
         heading = record { word = refl; place = refl; size = refl };
+        sentence = record {
+          before = c.new.result;
+          after = c.add_record.new.out;
+          blank = c.new.ensures.bytes;
+          whole = c.as_str.ensures.value;
+          adds = c.in_ok-add_record.ensures;
+        };
         parts = parts;
         are_parts = c.in_ok-parts.ensures;
         groups = refl;
@@ -61,6 +68,13 @@ returns-in_err-add_groups-clause-stopped g c =
       item,
       record {
         heading = record { word = refl; place = refl; size = refl };
+        sentence = record {
+          before = c.new.result;
+          after = c.add_record.new.out;
+          blank = c.new.ensures.bytes;
+          whole = c.as_str.ensures.value;
+          adds = c.in_ok-add_record.ensures;
+        };
         parts = parts;
         are_parts = c.in_ok-parts.ensures;
         groups = refl;
@@ -92,6 +106,13 @@ returns-clause-stopped g c =
       item,
       record {
         heading = record { word = refl; place = refl; size = refl };
+        sentence = record {
+          before = c.new.result;
+          after = c.add_record.new.out;
+          blank = c.new.ensures.bytes;
+          whole = c.as_str.ensures.value;
+          adds = c.in_ok-add_record.ensures;
+        };
         parts = parts;
         are_parts = c.in_ok-parts.ensures;
         groups = refl;
