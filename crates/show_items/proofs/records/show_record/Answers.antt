@@ -32,11 +32,15 @@ returns-clause-shown g c =
       record {
         heading = record { word = refl; place = refl; size = refl };
         sentence = record {
-          before = c.new.result;
+          before = c.new-sentence.result;
           after = c.add_record.new.out;
-          blank = c.new.ensures.bytes;
+          blank = c.new-sentence.ensures.bytes;
           whole = c.as_str.ensures.value;
-          adds = c.in_ok-add_record.ensures;
+          adds = record {
+            cut = c.in_ok-add_record.ensures.cut;
+            bare = c.in_ok-add_record.ensures.bare;
+            worst = c.in_ok-add_record.ensures.worst;
+          };
         };
         parts = parts;
         are_parts = c.in_ok-parts.ensures;
@@ -69,18 +73,22 @@ returns-in_err-add_groups-clause-stopped g c =
       record {
         heading = record { word = refl; place = refl; size = refl };
         sentence = record {
-          before = c.new.result;
+          before = c.new-sentence.result;
           after = c.add_record.new.out;
-          blank = c.new.ensures.bytes;
+          blank = c.new-sentence.ensures.bytes;
           whole = c.as_str.ensures.value;
-          adds = c.in_ok-add_record.ensures;
+          adds = record {
+            cut = c.in_ok-add_record.ensures.cut;
+            bare = c.in_ok-add_record.ensures.bare;
+            worst = c.in_ok-add_record.ensures.worst;
+          };
         };
         parts = parts;
         are_parts = c.in_ok-parts.ensures;
         groups = refl;
         judged = record { finding = c.in_ok-fault.ensures; bad = refl };
       },
-      item_begun item before after c.args.sheet.now c.begin.new.self c.in_ok-begin.ensures (subst Begun c.deref.ensures.value groups),
+      item_begun item before after c.args.sheet.now c.begin.new.self c.in_ok-begin.ensures refl (subst Begun c.deref.ensures.value groups),
     ))
     c.in_err-add_groups.ensures.stopped
 
@@ -107,11 +115,15 @@ returns-clause-stopped g c =
       record {
         heading = record { word = refl; place = refl; size = refl };
         sentence = record {
-          before = c.new.result;
+          before = c.new-sentence.result;
           after = c.add_record.new.out;
-          blank = c.new.ensures.bytes;
+          blank = c.new-sentence.ensures.bytes;
           whole = c.as_str.ensures.value;
-          adds = c.in_ok-add_record.ensures;
+          adds = record {
+            cut = c.in_ok-add_record.ensures.cut;
+            bare = c.in_ok-add_record.ensures.bare;
+            worst = c.in_ok-add_record.ensures.worst;
+          };
         };
         parts = parts;
         are_parts = c.in_ok-parts.ensures;
