@@ -87,7 +87,7 @@ sheet_begun manner path bytes before after blank path_is manner_is none no_items
     let items = stops.1.0 in
     let T : Option (List ℕ) → Manner → List ℕ → ℕ → Type 0 = λ (b : Option (List ℕ)) (m : Manner) (p : List ℕ) (n : ℕ). IsBegun before (append_known b (items_text m p n items)) after in
     let by_sheet : T (append_known before []) blank.manner blank.path.now blank.items =
-    subst (λ (out : List ℕ). T (append_known before out) blank.manner blank.path.now blank.items) none stops.1.2 in
+    subst (λ (out : List ℕ). T (append_known before out) blank.manner blank.path.now blank.items) none stops.1.2.begun in
     let by_pages : T before blank.manner blank.path.now blank.items = subst (λ (b : Option (List ℕ)). T b blank.manner blank.path.now blank.items) (nothing_behind before) by_sheet in
     let by_manner : T before manner blank.path.now blank.items = subst (λ (m : Manner). T before m blank.path.now blank.items) manner_is by_pages in
     let by_path : T before manner path blank.items = subst (λ (p : List ℕ). T before manner p blank.items) path_is by_manner in
@@ -95,6 +95,7 @@ sheet_begun manner path bytes before after blank path_is manner_is none no_items
       items = items;
       are = inr (stops.0, stops.1.1);
       begun = subst (λ (n : ℕ). T before manner path n) no_items by_path;
+      named_by = subst (λ (m : Manner). AreNamedBy (smbios_of m) items) manner_is stops.1.2.named_by;
     }
 
 -- a stop at the head, and one at the items behind it
@@ -104,6 +105,7 @@ head_begun manner head path bytes before after begun = record {
   items = [];
   are = inl refl;
   begun = begun_more before after before head [] begun;
+  named_by = tt;
 }
 
 pub items_begun : (manner : Manner) (head path bytes : List ℕ) (before middle after : Option (List ℕ)) → Appends before middle head
@@ -112,6 +114,7 @@ items_begun manner head path bytes before middle after first stops = record {
   items = stops.items;
   are = stops.are;
   begun = begun_then before middle after before middle head (items_text manner path 0 stops.items) (head, first) first stops.begun;
+  named_by = stops.named_by;
 }
 
 -- a further part of it

@@ -52,3 +52,4 @@ pub record StopsWriting (manner : Manner) (head path bytes : List ℕ) (before a
   pub items : List Shown
   pub are : AreBegun (name_of path) bytes items
   pub begun : IsBegun before (append_known before (head ++ items_text manner path 0 items)) after
+  pub named_by : AreNamedBy (smbios_of manner) items

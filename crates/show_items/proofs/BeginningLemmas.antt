@@ -3,13 +3,13 @@ use Rattle.std.proofs.Common.{◌≡◌, ◌≢◌, ◌∙◌, ℕ, false, List,
 use Rattle.std.specs.Io.KnownBytes.{Appends, append_known}
 use Rattle.show_items.specs.Beginnings.{Grows, IfStopped, IsBeginning, IsBegun}
 use Rattle.show_items.specs.Groups.{Group, groups_text, has_more}
-use Rattle.show_items.specs.Items.{Shown, count_after, end_text, heading_text, items_text, smbios_of}
+use Rattle.show_items.specs.Items.{AreNamedBy, Shown, count_after, end_text, heading_text, items_text, smbios_of}
 use Rattle.show_items.specs.Sheets.{AddsGroups, BeginsItem, EndsItem, GroupsBegun, ItemsBegun, ShowsItems, told}
 use Rattle.show_items.specs.declared.pages.Stop.{Stop}
 use Rattle.show_items.specs.declared.pages.Stop.TheVariants.{Memory}
 use Rattle.show_items.specs.declared.sheet.Manner.{Manner}
 use Rattle.show_items.specs.declared.sheet.Sheet.{Sheet}
-use Rattle.show_items.proofs.SheetLemmas.{behind_written, groups_text_then, grows_by_none, grows_then, item_shown, items_text_then, no_groups, on_pages}
+use Rattle.show_items.proofs.SheetLemmas.{behind_written, groups_text_then, grows_by_none, grows_then, item_shown, items_text_then, named_then, no_groups, on_pages}
 
 -- what follows of a stop of a call follows of its result
 pub if_stopped : {T : Type 0} → (result : Result T Stop) (Begun More : Type 0) → (Begun → More) → IfStopped result Begun → IfStopped result More
@@ -92,23 +92,31 @@ turned_and_begun some more before middle after old added turned adds turns begun
 
 -- an item was begun, and then a page of its groups could not be written
 pub item_begun : (item : Shown) (before after : Option (List ℕ)) (old begun : Sheet)
-    → BeginsItem item.heading old begun → GroupsBegun item.groups before after begun → ItemsBegun (item ∷ []) before after old
-item_begun item before after old begun begins stops =
+    → BeginsItem item.heading old begun → item.smbios ≡ smbios_of old.manner → GroupsBegun item.groups before after begun
+    → ItemsBegun (item ∷ []) before after old
+item_begun item before after old begun begins named stops =
     let heading : List ℕ = heading_text old.manner old.path.now old.items item.heading in
     let groups : List ℕ = groups_text old.manner false item.groups in
     let end : List ℕ = end_text old.manner item.fault in
     let T : Manner → Bool → Type 0 = λ (manner : Manner) (has : Bool). IsBegun before (append_known (told before begun) (groups_text manner has item.groups)) after in
     let text : T old.manner false = subst (λ (has : Bool). T old.manner has) begins.groups (subst (λ (manner : Manner). T manner begun.has_groups) begins.same.manner stops) in
-    begun_more before after (told before old) (heading ++ groups ++ end) []
-    (begun_more before after (told before old) (heading ++ groups) end
-    (begun_then before before after (told before old) (told before begun) heading groups (grows_by_none before) (behind_written before old begun heading begins.text) text))
+    record {
+      begun = begun_more before after (told before old) (heading ++ groups ++ end) []
+          (begun_more before after (told before old) (heading ++ groups) end
+          (begun_then before before after (told before old) (told before begun) heading groups (grows_by_none before)
+          (behind_written before old begun heading begins.text) text));
+      named_by = (named, tt);
+    }
 
 -- items were shown, and then a page could not be written
 pub shown_and_stopped : (items : List Shown) (before middle after : Option (List ℕ)) (old between : Sheet)
     → ShowsItems items before middle old between → GroupsBegun [] middle after between → ItemsBegun items before after old
-shown_and_stopped items before middle after old between shows begun =
-    begun_same before after (told before old) _ _ (append-nil (items_text old.manner old.path.now old.items items))
-    (begun_then before middle after (told before old) (told middle between) (items_text old.manner old.path.now old.items items) [] shows.grows shows.text begun)
+shown_and_stopped items before middle after old between shows begun = record {
+  begun = begun_same before after (told before old) _ _ (append-nil (items_text old.manner old.path.now old.items items))
+      (begun_then before middle after (told before old) (told middle between) (items_text old.manner old.path.now old.items items) []
+      shows.grows shows.text begun);
+  named_by = shows.named_by;
+}
 
 pub item_stopped : (item : Shown) (before middle after : Option (List ℕ)) (old begun grouped ended : Sheet)
     → BeginsItem item.heading old begun → AddsGroups item.groups before middle begun grouped → EndsItem item.fault item.bad grouped ended
@@ -122,8 +130,12 @@ pub items_begun_then : (some more : List Shown) (before middle after : Option (L
     → ShowsItems some before middle old between → ItemsBegun more middle after between → ItemsBegun (some ++ more) before after old
 items_begun_then some more before middle after old between first begun =
     let T : Manner → List ℕ → ℕ → Type 0 = λ (manner : Manner) (path : List ℕ) (count : ℕ). IsBegun middle (append_known (told middle between) (items_text manner path count more)) after in
-    let by_manner : T old.manner between.path.now between.items = subst (λ (manner : Manner). T manner between.path.now between.items) first.manner begun in
+    let by_manner : T old.manner between.path.now between.items = subst (λ (manner : Manner). T manner between.path.now between.items) first.manner begun.begun in
     let by_path : T old.manner old.path.now between.items = subst (λ (path : List ℕ). T old.manner path between.items) (ap (λ p. p.now) first.path) by_manner in
     let text : T old.manner old.path.now (count_after old.items some) = subst (λ (count : ℕ). T old.manner old.path.now count) first.count by_path in
-    begun_same before after (told before old) _ _ (items_text_then old.manner old.path.now old.items some more)
-    (begun_then before middle after (told before old) (told middle between) _ _ first.grows first.text text)
+    record {
+      begun = begun_same before after (told before old) _ _ (items_text_then old.manner old.path.now old.items some more)
+          (begun_then before middle after (told before old) (told middle between) _ _ first.grows first.text text);
+      named_by = named_then (smbios_of old.manner) some more first.named_by
+          (subst (λ (manner : Manner). AreNamedBy (smbios_of manner) more) first.manner begun.named_by);
+    }

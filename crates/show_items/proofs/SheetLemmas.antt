@@ -202,7 +202,7 @@ bad_then : (bad : Bool) (some more : List Shown) → bad_after (bad_after bad so
 bad_then bad [] more = refl
 bad_then bad (item ∷ some) more = bad_then (item.bad || bad) some more
 
-named_then : (smbios : Option (List ℕ)) (some more : List Shown) → AreNamedBy smbios some → AreNamedBy smbios more → AreNamedBy smbios (some ++ more)
+pub named_then : (smbios : Option (List ℕ)) (some more : List Shown) → AreNamedBy smbios some → AreNamedBy smbios more → AreNamedBy smbios (some ++ more)
 named_then smbios [] more first then = then
 named_then smbios (item ∷ some) more first then = (first.0, named_then smbios some more first.1 then)
 

@@ -9,6 +9,7 @@ use Rattle.show_items.specs.Groups.{Group, Head, bytes_group, fields_group, sing
 use Rattle.show_items.specs.Items.{Shown}
 use Rattle.show_items.specs.Judged.{IsJudgedBy, IsShownAs}
 use Rattle.show_items.specs.Parts.{ArePartsOf, ArePartsThen, part_groups}
+use Rattle.show_items.specs.Sentences.{IsBlockSentence}
 use Rattle.show_items.specs.declared.parts.Part.{Part}
 use Rattle.show_items.specs.Records.{section_group}
 use Rattle.field_lines.specs.Blocks.{block_status, long_data_entry, short_data_entry}
@@ -89,6 +90,7 @@ AreBlockParts (Some table) block parts = ArePartsBehind table block (length bloc
 -- a block that begins at a place of its file; behind its groups stand the parts that its sections name
 pub record IsBlock (at : Option ℕ) (bytes : List ℕ) (item : Shown) : Type 0 where
   pub heading : IsShownAs (codes "block") at bytes item
+  pub sentence : IsBlockSentence bytes item.heading.sentence
   pub parts : List Part
   pub are_parts : AreBlockParts item.smbios bytes parts
   pub groups : item.groups ≡ block_groups bytes ++ part_groups parts

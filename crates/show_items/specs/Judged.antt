@@ -11,7 +11,7 @@ use Rattle.show_items.specs.declared.sheet.Sheet.{Sheet}
 unfoldable pub IsFinding : Item → List ℕ → Option Fault → Type 0
 IsFinding item bytes fault = IsJudged item bytes (is_some fault) × IfSome fault (λ fault. IsPlace item bytes fault.at)
 
--- an item of this word, which begins there in its file; its sentence is free
+-- an item of this word, which begins there in its file
 pub record IsShownAs (kind : List ℕ) (at : Option ℕ) (bytes : List ℕ) (item : Shown) : Type 0 where
   pub word : item.heading.kind ≡ kind
   pub place : item.heading.at ≡ at

@@ -12,6 +12,7 @@ pub mod Parts
 pub mod Places
 pub mod Records
 pub mod Refusals
+pub mod Sentences
 pub mod Sequences
 pub mod Sheets
 pub mod Singles

@@ -10,6 +10,7 @@ use Rattle.show_items.specs.Groups.{Group, Head, fields_group, group_by, numbere
 use Rattle.show_items.specs.Items.{Shown}
 use Rattle.show_items.specs.Judged.{IsJudgedBy, IsShownAs}
 use Rattle.show_items.specs.Parts.{ArePartsOf, ArePartsThen, part_groups}
+use Rattle.show_items.specs.Sentences.{IsRecordSentence}
 use Rattle.show_items.specs.declared.parts.Part.{Part}
 use Rattle.field_lines.specs.Records.{linux_header, record_header, section_descriptor}
 use Rattle.field_lines.specs.Sections.{section_structure}
@@ -89,6 +90,7 @@ AreRecordParts (Some table) bytes parts = ArePartsFrom table bytes (seen_number 
 -- a record that begins at a place of its file; behind its groups stand the parts that its sections name
 pub record IsRecord (at : Option ℕ) (bytes : List ℕ) (item : Shown) : Type 0 where
   pub heading : IsShownAs (codes "record") at bytes item
+  pub sentence : IsRecordSentence bytes item.heading.sentence
   pub parts : List Part
   pub are_parts : AreRecordParts item.smbios bytes parts
   pub groups : item.groups ≡ record_groups bytes ++ part_groups parts

@@ -61,6 +61,6 @@ pub record ShowsItems (items : List Shown) (before after : Option (List ℕ)) (o
   pub manner : new.manner ≡ old.manner
 
 -- they had to be shown, and a page could not be written
-abbrev pub ItemsBegun : (items : List Shown) → (before after : Option (List ℕ)) → (old : Sheet) → Type 0
-ItemsBegun items before after old =
-    IsBegun before (append_known (told before old) (items_text old.manner old.path.now old.items items)) after
+pub record ItemsBegun (items : List Shown) (before after : Option (List ℕ)) (old : Sheet) : Type 0 where
+  pub begun : IsBegun before (append_known (told before old) (items_text old.manner old.path.now old.items items)) after
+  pub named_by : AreNamedBy (smbios_of old.manner) items

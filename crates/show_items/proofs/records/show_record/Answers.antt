@@ -31,6 +31,17 @@ returns-clause-shown g c =
       item,
       record {
         heading = record { word = refl; place = refl; size = refl };
+        sentence = record {
+          before = c.new-sentence.result;
+          after = c.add_record.new.out;
+          blank = c.new-sentence.ensures.bytes;
+          whole = c.as_str.ensures.value;
+          adds = record {
+            cut = c.in_ok-add_record.ensures.cut;
+            bare = c.in_ok-add_record.ensures.bare;
+            worst = c.in_ok-add_record.ensures.worst;
+          };
+        };
         parts = parts;
         are_parts = c.in_ok-parts.ensures;
         groups = refl;
@@ -61,12 +72,23 @@ returns-in_err-add_groups-clause-stopped g c =
       item,
       record {
         heading = record { word = refl; place = refl; size = refl };
+        sentence = record {
+          before = c.new-sentence.result;
+          after = c.add_record.new.out;
+          blank = c.new-sentence.ensures.bytes;
+          whole = c.as_str.ensures.value;
+          adds = record {
+            cut = c.in_ok-add_record.ensures.cut;
+            bare = c.in_ok-add_record.ensures.bare;
+            worst = c.in_ok-add_record.ensures.worst;
+          };
+        };
         parts = parts;
         are_parts = c.in_ok-parts.ensures;
         groups = refl;
         judged = record { finding = c.in_ok-fault.ensures; bad = refl };
       },
-      item_begun item before after c.args.sheet.now c.begin.new.self c.in_ok-begin.ensures (subst Begun c.deref.ensures.value groups),
+      item_begun item before after c.args.sheet.now c.begin.new.self c.in_ok-begin.ensures refl (subst Begun c.deref.ensures.value groups),
     ))
     c.in_err-add_groups.ensures.stopped
 
@@ -92,6 +114,17 @@ returns-clause-stopped g c =
       item,
       record {
         heading = record { word = refl; place = refl; size = refl };
+        sentence = record {
+          before = c.new-sentence.result;
+          after = c.add_record.new.out;
+          blank = c.new-sentence.ensures.bytes;
+          whole = c.as_str.ensures.value;
+          adds = record {
+            cut = c.in_ok-add_record.ensures.cut;
+            bare = c.in_ok-add_record.ensures.bare;
+            worst = c.in_ok-add_record.ensures.worst;
+          };
+        };
         parts = parts;
         are_parts = c.in_ok-parts.ensures;
         groups = refl;

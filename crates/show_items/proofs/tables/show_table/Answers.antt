@@ -56,7 +56,7 @@ returns-in_err-add_groups-clause-stopped g c =
     (λ groups. (
       item,
       is_table,
-      item_begun item before after c.args.sheet.now c.begin.new.self c.in_ok-begin.ensures groups,
+      item_begun item before after c.args.sheet.now c.begin.new.self c.in_ok-begin.ensures refl groups,
     ))
     c.in_err-add_groups.ensures.stopped
 
