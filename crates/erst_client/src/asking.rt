@@ -7,7 +7,7 @@ use crate::errors::ClientError;
 use crate::requests::program_for;
 use apei_space::SpaceFault;
 use erst_entries::{Action, ErstTable};
-use erst_interp::{Budget, Demand, RunState, RunStop, answered, demanded, first_state, settled};
+use erst_interp::{Budget, Demand, RunState, RunStop, demanded, first_state};
 
 /// The run of an action's program that is given no value: GET_RECORD_COUNT, GET_RECORD_IDENTIFIER, or what an attaching
 /// client asks for.
@@ -33,19 +33,14 @@ impl Asking {
     }
 
     /// Goes on up to the next access, or to the end.
-    pub fn settled(self, table: &ErstTable) -> Asking
-        requires { is_sound_state self.state ≡ true }
-        ensures moves { AskingMoves table.now.entries self result }
-        ensures settled { is_settled result.state ≡ true }
-        ensures sound { is_sound_state result.state ≡ true }
+    pub fn settle(&mut self, table: &ErstTable)
+        requires { is_sound_state self.old.state ≡ true }
+        ensures moves { AskingMoves table.now.entries self.old self.new }
+        ensures settled { is_settled self.new.state ≡ true }
+        ensures sound { is_sound_state self.new.state ≡ true }
     {
-        let mut left = self.left;
-        let state = settled(&program_for(table, self.action), 0, self.state, &mut left);
-        Asking {
-            state,
-            left,
-            ..self
-        }
+        let program = program_for(table, self.action);
+        self.state.settle(&program, 0, &mut self.left);
     }
 
     /// The access that comes next.
@@ -55,19 +50,13 @@ impl Asking {
         demanded(&self.state)
     }
 
-    /// Where its answer leads.
-    pub fn answered(self, answer: Result<u64, SpaceFault>) -> Asking
-        requires { is_sound_state self.state ≡ true }
-        ensures answered { result ≡ asking_answered self answer }
-        ensures sound { is_sound_state result.state ≡ true }
+    /// Takes its answer.
+    pub fn answer(&mut self, answer: Result<u64, SpaceFault>)
+        requires { is_sound_state self.old.state ≡ true }
+        ensures answered { self.new ≡ asking_answered self.old answer }
+        ensures sound { is_sound_state self.new.state ≡ true }
     {
-        let mut left = self.left;
-        let state = answered(self.state, &mut left, answer);
-        Asking {
-            state,
-            left,
-            ..self
-        }
+        self.state.answer(&mut self.left, answer);
     }
 
     /// The answer of the program, once it has ended.

@@ -67,7 +67,10 @@ impl Finding {
         ensures sound { is_sound_finding result ≡ true }
     {
         match self.asking() {
-            Some(asking) => self.with(asking.answered(answer)),
+            Some(mut asking) => {
+                asking.answer(answer);
+                self.with(asking)
+            }
             None => self,
         }
     }
@@ -82,10 +85,10 @@ impl Finding {
     {
         let mut at = self;
         'requests: loop {
-            let Some(first) = at.asking() else {
+            let Some(mut asking) = at.asking() else {
                 return at;
             };
-            let asking = first.settled(table);
+            asking.settle(table);
             match asking.result() {
                 Some(answer) => at = at.heard(table, answer, asking.left),
                 None => return at.with(asking),

@@ -11,7 +11,7 @@ use crate::sequences::END_STEPS;
 use crate::stages::{Command, PAUSE, Part, Stage, request_for, turned};
 use apei_space::SpaceFault;
 use erst_entries::ErstTable;
-use erst_interp::{Budget, Demand, RunState, RunStop, answered, demanded, first_state, settled};
+use erst_interp::{Budget, Demand, RunState, RunStop, demanded, first_state};
 
 /// How far a command has come that makes no access itself.
 #[derive(Clone, Copy)]
@@ -50,26 +50,20 @@ impl Position {
 
     /// Goes on up to the next access, or to the end.
     #[tactic(auto, using(crate::proofs::Rules::positions))]
-    pub fn settled(
-        self,
-        table: &ErstTable,
-        command: Command,
-        timings: Option<(u32, u32)>,
-    ) -> Position
-        requires { is_sound_at self ≡ true }
-        ensures moves { Moves table.now.entries command timings self result }
-        ensures settled { is_settled_at result.stage result.state ≡ true }
-        ensures sound { is_sound_at result ≡ true }
+    pub fn settle(&mut self, table: &ErstTable, command: Command, timings: Option<(u32, u32)>)
+        requires { is_sound_at self.old ≡ true }
+        ensures moves { Moves table.now.entries command timings self.old self.new }
+        ensures settled { is_settled_at self.new.stage self.new.state ≡ true }
+        ensures sound { is_sound_at self.new ≡ true }
     {
-        let mut at = self;
         'stages: loop {
-            let Some(request) = request_for(command, at.stage) else {
-                return at;
+            let Some(request) = request_for(command, self.stage) else {
+                return;
             };
-            let run = at.run_on(table, request);
-            match run.state {
-                RunState::Ended(answer) => at = run.turned(table, command, timings, answer),
-                _ => return run,
+            self.run_on(table, request);
+            match self.state {
+                RunState::Ended(answer) => self.turn(table, command, timings, answer),
+                _ => return,
             }
         }
     }
@@ -87,30 +81,17 @@ impl Position {
         }
     }
 
-    /// Where the answer of that access leads.
-    pub fn answered(
-        self,
-        table: &ErstTable,
-        command: Command,
-        answer: Result<u64, SpaceFault>,
-    ) -> Position
-        requires { is_sound_at self ≡ true }
-        ensures answered { result ≡ answered_at table.now.entries command self answer }
-        ensures sound { is_sound_at result ≡ true }
+    /// Takes the answer of that access.
+    pub fn answer(&mut self, table: &ErstTable, command: Command, answer: Result<u64, SpaceFault>)
+        requires { is_sound_at self.old ≡ true }
+        ensures answered { self.new ≡ answered_at table.now.entries command self.old answer }
+        ensures sound { is_sound_at self.new ≡ true }
     {
         match self.stage {
             Stage::Waiting(waited) => {
-                Position::entered(table, command, Stage::Checking(waited), self.kept)
+                *self = Position::entered(table, command, Stage::Checking(waited), self.kept);
             }
-            _ => {
-                let mut left = self.left;
-                let state = answered(self.state, &mut left, answer);
-                Position {
-                    state,
-                    left,
-                    ..self
-                }
-            }
+            _ => self.state.answer(&mut self.left, answer),
         }
     }
 
@@ -127,47 +108,33 @@ impl Position {
 
 impl Position {
     /// Goes on in the run of its stage.
-    fn run_on(self, table: &ErstTable, request: Request) -> Position
-        requires { is_sound_at self ≡ true }
-        ensures comes { Comes (program_for table.now.entries request) request.given self.state self.left result.state result.left }
-        ensures stage { result.stage ≡ self.stage }
-        ensures kept { result.kept ≡ self.kept }
-        ensures sound { is_sound_at result ≡ true }
-        ensures settled { is_settled result.state ≡ true }
+    fn run_on(&mut self, table: &ErstTable, request: Request)
+        requires { is_sound_at self.old ≡ true }
+        ensures comes { Comes (program_for table.now.entries request) request.given self.old.state self.old.left self.new.state self.new.left }
+        ensures stage { self.new.stage ≡ self.old.stage }
+        ensures kept { self.new.kept ≡ self.old.kept }
+        ensures sound { is_sound_at self.new ≡ true }
+        ensures settled { is_settled self.new.state ≡ true }
     {
-        let mut left = self.left;
-        let state = settled(
-            &program_for(table, request.action),
-            request.given,
-            self.state,
-            &mut left,
-        );
-        Position {
-            state,
-            left,
-            ..self
-        }
+        let program = program_for(table, request.action);
+        self.state.settle(&program, request.given, &mut self.left);
     }
 
-    /// Where the end of its run leads.
-    fn turned(
-        self,
+    /// Goes where the end of its run leads.
+    fn turn(
+        &mut self,
         table: &ErstTable,
         command: Command,
         timings: Option<(u32, u32)>,
         answer: Result<u64, RunStop>,
-    ) -> Position
-        requires { is_sound_at self ≡ true }
-        ensures turned { result ≡ turned_at table.now.entries command timings self answer }
-        ensures sound { is_sound_at result ≡ true }
+    )
+        requires { is_sound_at self.old ≡ true }
+        ensures turned { self.new ≡ turned_at table.now.entries command timings self.old answer }
+        ensures sound { is_sound_at self.new ≡ true }
     {
+        let stage = turned(command, timings, self.stage, answer);
         let left = steps_after(self.stage, self.kept, self.left);
-        Position::entered(
-            table,
-            command,
-            turned(command, timings, self.stage, answer),
-            left,
-        )
+        *self = Position::entered(table, command, stage, left);
     }
 }
 

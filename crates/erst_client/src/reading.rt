@@ -1,7 +1,6 @@
 // A read that makes no access itself: its sequence runs, and then the record is copied out of the range.
 ghost use Rattle.std.specs.Prelude.{◌≡◌, true, Err};
-ghost use Rattle.erst_client.specs.Positions.{is_sound_at, is_settled_at};
-ghost use Rattle.erst_client.specs.Reading.{read_first, read_demanded, read_answered, read_result, is_sound_read, is_settled_read, sequenced, ReadMoves};
+ghost use Rattle.erst_client.specs.Reading.{read_first, read_demanded, read_answered, read_result, is_sound_read, is_settled_read, ReadMoves};
 
 use crate::attaching::FoundRange;
 use crate::commands::copy_refusal;
@@ -55,7 +54,7 @@ impl Reading {
     pub fn demand(&self, found: FoundRange) -> Option<ReadDemand>
         ensures { result ≡ read_demanded found self.now }
     {
-        match *self {
+        match self {
             Reading::Sequence(at) => match at.demand(found.timings) {
                 Some(demand) => Some(ReadDemand::Access(demand)),
                 None => None,
@@ -65,59 +64,67 @@ impl Reading {
             }),
             Reading::Record { len, .. } => Some(ReadDemand::TakeRecord {
                 address: found.address,
-                len,
+                len: *len,
             }),
             Reading::Ended { .. } => None,
         }
     }
 
-    /// Where its answer leads, with a buffer of so many bytes.
-    pub fn answered(
-        self,
+    /// Takes its answer, with a buffer of so many bytes.
+    pub fn answer(
+        &mut self,
         table: &ErstTable,
         found: FoundRange,
         id: u64,
         room: usize,
         answer: Result<u64, SpaceFault>,
-    ) -> Reading
-        requires { is_sound_read self ≡ true }
-        ensures answered { result ≡ read_answered table.now.entries found.len id room self answer }
-        ensures sound { is_sound_read result ≡ true }
+    )
+        requires { is_sound_read self.old ≡ true }
+        ensures answered { self.new ≡ read_answered table.now.entries found.len id room self.old answer }
+        ensures sound { is_sound_read self.new ≡ true }
     {
         match self {
-            Reading::Sequence(at) => {
-                Reading::Sequence(at.answered(table, Command::Read(id), answer))
+            Reading::Sequence(at) => at.answer(table, Command::Read(id), answer),
+            Reading::Length { left } => {
+                let left = *left;
+                *self = match answer {
+                    Ok(len) => match copy_refusal(len, found.len, room as u64) {
+                        Some(error) => Reading::failed(error, left),
+                        None => Reading::Record { len, left },
+                    },
+                    Err(fault) => Reading::failed(ClientError::Range(fault), left),
+                };
             }
-            Reading::Length { left } => match answer {
-                Ok(len) => match copy_refusal(len, found.len, room as u64) {
-                    Some(error) => Reading::failed(error, left),
-                    None => Reading::Record { len, left },
-                },
-                Err(fault) => Reading::failed(ClientError::Range(fault), left),
-            },
-            Reading::Record { len, left } => match answer {
-                Ok(_) => Reading::Ended {
-                    result: Ok(len as usize),
-                    left,
-                },
-                Err(fault) => Reading::failed(ClientError::Range(fault), left),
-            },
-            Reading::Ended { .. } => self,
+            Reading::Record { len, left } => {
+                let (len, left) = (*len, *left);
+                *self = match answer {
+                    Ok(_) => Reading::Ended {
+                        result: Ok(len as usize),
+                        left,
+                    },
+                    Err(fault) => Reading::failed(ClientError::Range(fault), left),
+                };
+            }
+            Reading::Ended { .. } => {}
         }
     }
 
     /// Goes on up to the next demand, or to the end.
-    pub fn settled(self, table: &ErstTable, found: FoundRange, id: u64) -> Reading
-        requires { is_sound_read self ≡ true }
-        ensures moves { ReadMoves table.now.entries id found.timings self result }
-        ensures settled { is_settled_read result ≡ true }
-        ensures sound { is_sound_read result ≡ true }
+    pub fn settle(&mut self, table: &ErstTable, found: FoundRange, id: u64)
+        requires { is_sound_read self.old ≡ true }
+        ensures moves { ReadMoves table.now.entries id found.timings self.old self.new }
+        ensures settled { is_settled_read self.new ≡ true }
+        ensures sound { is_sound_read self.new ≡ true }
     {
-        match self {
-            Reading::Sequence(at) => {
-                sequenced(at.settled(table, Command::Read(id), found.timings))
-            }
-            _ => self,
+        let Reading::Sequence(at) = self else {
+            return;
+        };
+        at.settle(table, Command::Read(id), found.timings);
+        let left = at.kept;
+        match at.stage {
+            Stage::Done(Ok(())) => *self = Reading::Length { left },
+            Stage::Done(Err(error)) => *self = Reading::failed(error, left),
+            _ => {}
         }
     }
 
@@ -125,8 +132,8 @@ impl Reading {
     pub fn result(&self) -> Option<Result<usize, ClientError>>
         ensures { result ≡ read_result self.now }
     {
-        match *self {
-            Reading::Ended { result, .. } => Some(result),
+        match self {
+            Reading::Ended { result, .. } => Some(*result),
             _ => None,
         }
     }
@@ -138,20 +145,5 @@ impl Reading {
             result: Err(error),
             left,
         }
-    }
-}
-
-/// Where the end of the sequence leads.
-fn sequenced(at: Position) -> Reading
-    requires sound { is_sound_at at ≡ true }
-    requires settled { is_settled_at at.stage at.state ≡ true }
-    ensures goes_on { result ≡ sequenced at at.stage }
-    ensures settled { is_settled_read result ≡ true }
-    ensures sound { is_sound_read result ≡ true }
-{
-    match at.stage {
-        Stage::Done(Ok(())) => Reading::Length { left: at.kept },
-        Stage::Done(Err(error)) => Reading::failed(error, at.kept),
-        _ => Reading::Sequence(at),
     }
 }

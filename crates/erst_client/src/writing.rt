@@ -48,7 +48,7 @@ impl Writing {
     pub fn demand(&self, found: FoundRange) -> Option<WriteDemand>
         ensures { result ≡ write_demanded found self.now }
     {
-        match *self {
+        match self {
             Writing::Record => Some(WriteDemand::PutRecord {
                 address: found.address,
             }),
@@ -63,43 +63,39 @@ impl Writing {
         }
     }
 
-    /// Where its answer leads. The sequence has these steps.
-    pub fn answered(
-        self,
-        table: &ErstTable,
-        steps: Budget,
-        answer: Result<u64, SpaceFault>,
-    ) -> Writing
-        requires { is_sound_write self ≡ true }
-        ensures answered { result ≡ write_answered table.now.entries steps self answer }
-        ensures sound { is_sound_write result ≡ true }
+    /// Takes its answer. The sequence has these steps.
+    pub fn answer(&mut self, table: &ErstTable, steps: Budget, answer: Result<u64, SpaceFault>)
+        requires { is_sound_write self.old ≡ true }
+        ensures answered { self.new ≡ write_answered table.now.entries steps self.old answer }
+        ensures sound { is_sound_write self.new ≡ true }
     {
         match self {
-            Writing::Record => match answer {
-                Ok(_) => Writing::Mark,
-                Err(fault) => Writing::Refused(ClientError::Range(fault)),
-            },
-            Writing::Mark => match answer {
-                Ok(_) => Writing::Sequence(Position::first(table, Command::Write, steps)),
-                Err(fault) => Writing::Refused(ClientError::Range(fault)),
-            },
-            Writing::Sequence(at) => Writing::Sequence(at.answered(table, Command::Write, answer)),
-            Writing::Refused(error) => Writing::Refused(error),
+            Writing::Record => {
+                *self = match answer {
+                    Ok(_) => Writing::Mark,
+                    Err(fault) => Writing::Refused(ClientError::Range(fault)),
+                };
+            }
+            Writing::Mark => {
+                *self = match answer {
+                    Ok(_) => Writing::Sequence(Position::first(table, Command::Write, steps)),
+                    Err(fault) => Writing::Refused(ClientError::Range(fault)),
+                };
+            }
+            Writing::Sequence(at) => at.answer(table, Command::Write, answer),
+            Writing::Refused(_) => {}
         }
     }
 
     /// Goes on up to the next demand, or to the end.
-    pub fn settled(self, table: &ErstTable, found: FoundRange) -> Writing
-        requires { is_sound_write self ≡ true }
-        ensures moves { WriteMoves table.now.entries found.timings self result }
-        ensures settled { is_settled_write result ≡ true }
-        ensures sound { is_sound_write result ≡ true }
+    pub fn settle(&mut self, table: &ErstTable, found: FoundRange)
+        requires { is_sound_write self.old ≡ true }
+        ensures moves { WriteMoves table.now.entries found.timings self.old self.new }
+        ensures settled { is_settled_write self.new ≡ true }
+        ensures sound { is_sound_write self.new ≡ true }
     {
-        match self {
-            Writing::Sequence(at) => {
-                Writing::Sequence(at.settled(table, Command::Write, found.timings))
-            }
-            _ => self,
+        if let Writing::Sequence(at) = self {
+            at.settle(table, Command::Write, found.timings);
         }
     }
 
@@ -107,8 +103,8 @@ impl Writing {
     pub fn result(&self) -> Option<Result<(), ClientError>>
         ensures { result ≡ write_result self.now }
     {
-        match *self {
-            Writing::Refused(error) => Some(Err(error)),
+        match self {
+            Writing::Refused(error) => Some(Err(*error)),
             Writing::Sequence(at) => at.result(),
             _ => None,
         }

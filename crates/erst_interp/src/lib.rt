@@ -16,7 +16,7 @@ mod works;
 pub use budgets::Budget;
 pub use demands::Demand;
 pub use laws::{a_straight_program_runs_through, a_told_run_ends, a_told_run_is_a_run};
-pub use runners::{Runner, answered, demanded, first_state, settled};
+pub use runners::{Runner, demanded, first_state};
 pub use runs::run;
 pub use states::RunState;
 pub use stops::RunStop;

@@ -47,8 +47,7 @@ impl Runner {
         ensures given { self.new.given ≡ self.old.given }
         ensures settled { is_settled self.new.state ≡ true }
     {
-        let state = settled(program, self.given, self.state, &mut self.budget);
-        self.state = state;
+        self.state.settle(program, self.given, &mut self.budget);
     }
 
     /// The access that the run waits for.
@@ -64,8 +63,7 @@ impl Runner {
         ensures left { self.new.budget ≡ (answered self.old.state self.old.budget answer).1 }
         ensures given { self.new.given ≡ self.old.given }
     {
-        let state = answered(self.state, &mut self.budget, answer);
-        self.state = state;
+        self.state.answer(&mut self.budget, answer);
     }
 
     /// The run's answer, once it has ended.
@@ -94,48 +92,50 @@ pub fn first_state(program: &Program<'_>) -> RunState
     }
 }
 
-/// Where a run comes to without an access.
-#[tactic(auto, using(crate::proofs::Rules::comings))]
-pub fn settled(program: &Program<'_>, given: u64, first: RunState, budget: &mut Budget) -> RunState
-    requires { is_sound_state first ≡ true }
-    ensures comes { Comes program.now given first budget.old result budget.new }
-    ensures settled { is_settled result ≡ true }
-    ensures sound { is_sound_state result ≡ true }
-{
-    let mut state = first;
-    while let RunState::Ready(at) = state {
-        if let Some(result) = end_at(program, given, &at, budget) {
-            return RunState::Ended(result);
-        }
-        let task = Task::of(program, given, at);
-        state = state_of(&task, begun(&task));
-    }
-    state
-}
-
 /// The access that a run waits for.
 pub fn demanded(state: &RunState) -> Option<Demand>
     ensures { result ≡ demanded state.now }
 {
-    match *state {
-        RunState::Awaiting(task, awaited) => Some(awaited.demand(&task)),
+    match state {
+        RunState::Awaiting(task, awaited) => Some(awaited.demand(task)),
         _ => None,
     }
 }
 
-/// Where a run stands once its access was answered.
-pub fn answered(state: RunState, budget: &mut Budget, answer: Result<u64, SpaceFault>) -> RunState
-    requires { is_sound_state state ≡ true }
-    ensures state { result ≡ (answered state budget.old answer).0 }
-    ensures left { budget.new ≡ (answered state budget.old answer).1 }
-    ensures sound { is_sound_state result ≡ true }
-{
-    match state {
-        RunState::Awaiting(task, awaited) => {
-            let progress = resumed(&task, &awaited, budget, answer);
-            state_of(&task, progress)
+impl RunState {
+    /// Goes on up to the next access, or to the end.
+    #[tactic(auto, using(crate::proofs::Rules::comings))]
+    pub fn settle(&mut self, program: &Program<'_>, given: u64, budget: &mut Budget)
+        requires { is_sound_state self.old ≡ true }
+        ensures comes { Comes program.now given self.old budget.old self.new budget.new }
+        ensures settled { is_settled self.new ≡ true }
+        ensures sound { is_sound_state self.new ≡ true }
+    {
+        while let RunState::Ready(at) = *self {
+            if let Some(result) = end_at(program, given, &at, budget) {
+                *self = RunState::Ended(result);
+                return;
+            }
+            let task = Task::of(program, given, at);
+            *self = state_of(&task, begun(&task));
         }
-        _ => state,
+    }
+
+    /// Takes the answer of the access that the run waits for.
+    #[tactic(auto, using(std::proofs::lemmas::Bool::Decides::nat_tests))]
+    pub fn answer(&mut self, budget: &mut Budget, answer: Result<u64, SpaceFault>)
+        requires { is_sound_state self.old ≡ true }
+        ensures state { self.new ≡ (answered self.old budget.old answer).0 }
+        ensures left { budget.new ≡ (answered self.old budget.old answer).1 }
+        ensures sound { is_sound_state self.new ≡ true }
+    {
+        if let RunState::Awaiting(task, awaited) = self {
+            match resumed(task, awaited, budget, answer) {
+                Progress::Done(next) => *self = RunState::Ready(next),
+                Progress::Awaits(further) => *awaited = further,
+                Progress::Stopped(stop) => *self = RunState::Ended(Err(stop)),
+            }
+        }
     }
 }
 

@@ -37,66 +37,48 @@ impl Listing {
     pub fn demand(&self) -> Option<Demand>
         ensures { result ≡ listing_demanded self.now }
     {
-        match *self {
+        match self {
             Listing::Asking { asking, .. } => asking.demand(),
             Listing::Ended { .. } => None,
         }
     }
 
-    /// Where its answer leads.
-    pub fn answered(self, answer: Result<u64, SpaceFault>) -> Listing
-        requires { is_sound_listing self ≡ true }
-        ensures answered { result ≡ listing_answered self answer }
-        ensures sound { is_sound_listing result ≡ true }
+    /// Takes its answer.
+    pub fn answer(&mut self, answer: Result<u64, SpaceFault>)
+        requires { is_sound_listing self.old ≡ true }
+        ensures answered { self.new ≡ listing_answered self.old answer }
+        ensures sound { is_sound_listing self.new ≡ true }
     {
-        match self {
-            Listing::Asking {
-                listed,
-                ended_once,
-                asking,
-            } => Listing::Asking {
-                listed,
-                ended_once,
-                asking: asking.answered(answer),
-            },
-            Listing::Ended { .. } => self,
+        if let Listing::Asking { asking, .. } = self {
+            asking.answer(answer);
         }
     }
 
     /// Goes on up to the next access, or to the end. The identifiers that come are put into the buffer.
     #[tactic(auto, using(crate::proofs::Rules::listings))]
-    pub fn settled(self, table: &ErstTable, steps: Budget, ids: &mut [u64]) -> Listing
-        requires sound { is_sound_listing self ≡ true }
-        requires room { listed_by self ≤ length ids.old }
-        ensures moves { ListingMoves table.now.entries steps self ids.old result ids.new }
-        ensures settled { is_settled_listing result ≡ true }
-        ensures sound { is_sound_listing result ≡ true }
-        ensures room { listed_by result ≤ length ids.new }
+    pub fn settle(&mut self, table: &ErstTable, steps: Budget, ids: &mut [u64])
+        requires sound { is_sound_listing self.old ≡ true }
+        requires room { listed_by self.old ≤ length ids.old }
+        ensures moves { ListingMoves table.now.entries steps self.old ids.old self.new ids.new }
+        ensures settled { is_settled_listing self.new ≡ true }
+        ensures sound { is_sound_listing self.new ≡ true }
+        ensures room { listed_by self.new ≤ length ids.new }
     {
-        let mut at = self;
         'questions: loop {
-            match at {
-                Listing::Asking {
-                    listed,
-                    ended_once,
-                    asking: first,
-                } => {
-                    let asking = first.settled(table);
-                    match asking.identifier() {
-                        Some(answer) => {
-                            at = heard(table, steps, listed, ended_once, answer, ids);
-                        }
-                        None => {
-                            return Listing::Asking {
-                                listed,
-                                ended_once,
-                                asking,
-                            };
-                        }
-                    }
-                }
-                Listing::Ended { .. } => return at,
-            }
+            let Listing::Asking {
+                listed,
+                ended_once,
+                asking,
+            } = self
+            else {
+                return;
+            };
+            asking.settle(table);
+            let Some(answer) = asking.identifier() else {
+                return;
+            };
+            let (listed, ended_once) = (*listed, *ended_once);
+            *self = heard(table, steps, listed, ended_once, answer, ids);
         }
     }
 
@@ -104,9 +86,9 @@ impl Listing {
     pub fn listed(&self) -> usize
         ensures { result ≡ listed_by self.now }
     {
-        match *self {
-            Listing::Asking { listed, .. } => listed,
-            Listing::Ended { listed, .. } => listed,
+        match self {
+            Listing::Asking { listed, .. } => *listed,
+            Listing::Ended { listed, .. } => *listed,
         }
     }
 
@@ -114,9 +96,9 @@ impl Listing {
     pub fn result(&self) -> Option<Result<(), ListError>>
         ensures { result ≡ listing_result self.now }
     {
-        match *self {
+        match self {
             Listing::Asking { .. } => None,
-            Listing::Ended { result, .. } => Some(result),
+            Listing::Ended { result, .. } => Some(*result),
         }
     }
 }

@@ -95,10 +95,8 @@ impl Session {
         if self.work.listed() > ids.len() {
             return Err(SessionError::Short);
         }
-        self.work = self
-            .work
-            .answered(&self.table, self.found, answer)
-            .settled(&self.table, self.found, ids);
+        self.work.answer(&self.table, self.found, answer);
+        self.work.settle(&self.table, self.found, ids);
         self.note();
         Ok(())
     }

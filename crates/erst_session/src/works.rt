@@ -72,14 +72,16 @@ impl Work {
         ensures goes { Goes table.now.entries found (work_first table.now.entries found order) ids.old result ids.new }
         ensures sound { is_sound_work result ≡ true }
     {
-        Work::first(table, found, order).settled(table, found, ids)
+        let mut work = Work::first(table, found, order);
+        work.settle(table, found, ids);
+        work
     }
 
     /// What it wants done next.
     pub fn demand(&self, found: FoundRange) -> Option<WorkDemand>
         ensures { result ≡ work_demanded found self.now }
     {
-        match *self {
+        match self {
             Work::Attaching(at) => of_access(at.demand()),
             Work::Writing(at) => of_write(at.demand(found)),
             Work::Reading { at, .. } => of_read(at.demand(found)),
@@ -90,58 +92,39 @@ impl Work {
         }
     }
 
-    /// Where the answer leads.
-    pub fn answered(
-        self,
-        table: &ErstTable,
-        found: FoundRange,
-        answer: Result<u64, SpaceFault>,
-    ) -> Work
-        requires { is_sound_work self ≡ true }
-        ensures answered { result ≡ work_answered table.now.entries found self answer }
-        ensures sound { is_sound_work result ≡ true }
-        ensures listed { listed_in result ≡ listed_in self }
+    /// Takes the answer.
+    pub fn answer(&mut self, table: &ErstTable, found: FoundRange, answer: Result<u64, SpaceFault>)
+        requires { is_sound_work self.old ≡ true }
+        ensures answered { self.new ≡ work_answered table.now.entries found self.old answer }
+        ensures sound { is_sound_work self.new ≡ true }
+        ensures listed { listed_in self.new ≡ listed_in self.old }
     {
         match self {
-            Work::Attaching(at) => Work::Attaching(at.answered(answer)),
-            Work::Writing(at) => Work::Writing(at.answered(table, enough(found), answer)),
-            Work::Reading { id, room, at } => Work::Reading {
-                id,
-                room,
-                at: at.answered(table, found, id, room, answer),
-            },
-            Work::Running { command, at } => Work::Running {
-                command,
-                at: at.answered(table, command, answer),
-            },
-            Work::Counting(at) => Work::Counting(at.answered(answer)),
-            Work::Naming(at) => Work::Naming(at.answered(answer)),
-            Work::Listing(at) => Work::Listing(at.answered(answer)),
+            Work::Attaching(at) => *at = at.answered(answer),
+            Work::Writing(at) => at.answer(table, enough(found), answer),
+            Work::Reading { id, room, at } => at.answer(table, found, *id, *room, answer),
+            Work::Running { command, at } => at.answer(table, *command, answer),
+            Work::Counting(at) => at.answer(answer),
+            Work::Naming(at) => at.answer(answer),
+            Work::Listing(at) => at.answer(answer),
         }
     }
 
     /// Goes on up to the next demand, or to the end. A listing puts its identifiers into the buffer.
-    pub fn settled(self, table: &ErstTable, found: FoundRange, ids: &mut [u64]) -> Work
-        requires sound { is_sound_work self ≡ true }
-        requires room { listed_in self ≤ length ids.old }
-        ensures goes { Goes table.now.entries found self ids.old result ids.new }
-        ensures sound { is_sound_work result ≡ true }
+    pub fn settle(&mut self, table: &ErstTable, found: FoundRange, ids: &mut [u64])
+        requires sound { is_sound_work self.old ≡ true }
+        requires room { listed_in self.old ≤ length ids.old }
+        ensures goes { Goes table.now.entries found self.old ids.old self.new ids.new }
+        ensures sound { is_sound_work self.new ≡ true }
     {
         match self {
-            Work::Attaching(at) => Work::Attaching(at.settled(table)),
-            Work::Writing(at) => Work::Writing(at.settled(table, found)),
-            Work::Reading { id, room, at } => Work::Reading {
-                id,
-                room,
-                at: at.settled(table, found, id),
-            },
-            Work::Running { command, at } => Work::Running {
-                command,
-                at: at.settled(table, command, found.timings),
-            },
-            Work::Counting(at) => Work::Counting(at.settled(table)),
-            Work::Naming(at) => Work::Naming(at.settled(table)),
-            Work::Listing(at) => Work::Listing(at.settled(table, enough(found), ids)),
+            Work::Attaching(at) => *at = at.settled(table),
+            Work::Writing(at) => at.settle(table, found),
+            Work::Reading { id, at, .. } => at.settle(table, found, *id),
+            Work::Running { command, at } => at.settle(table, *command, found.timings),
+            Work::Counting(at) => at.settle(table),
+            Work::Naming(at) => at.settle(table),
+            Work::Listing(at) => at.settle(table, enough(found), ids),
         }
     }
 
@@ -149,7 +132,7 @@ impl Work {
     pub fn listed(&self) -> usize
         ensures { result ≡ listed_in self.now }
     {
-        match *self {
+        match self {
             Work::Listing(at) => at.listed(),
             _ => 0,
         }
@@ -159,7 +142,7 @@ impl Work {
     pub fn found(&self) -> Option<FoundRange>
         ensures { result ≡ found_by self.now }
     {
-        match *self {
+        match self {
             Work::Attaching(at) => match at.result() {
                 Some(Ok(found)) => Some(found),
                 _ => None,
@@ -172,7 +155,7 @@ impl Work {
     pub fn result(&self) -> Option<Result<u64, WorkError>>
         ensures { result ≡ work_result self.now }
     {
-        match *self {
+        match self {
             Work::Attaching(at) => result_of_finding(at.result()),
             Work::Writing(at) => result_of(at.result()),
             Work::Reading { at, .. } => result_of_read(at.result()),

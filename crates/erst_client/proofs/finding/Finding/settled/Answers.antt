@@ -6,4 +6,4 @@ use Rattle.erst_client.proofs.finding.Finding.settled.Goals as goal
 pub requests-smaller : goal.requests-smaller
 requests-smaller c =
     subst (λ (at : Finding). finding_rank at < finding_rank c.requests.at) (sym c.heard-at.ensures.heard)
-    (rank_heard c.args.table.now.entries c.requests.at c.in-Some.first c.in-Some-result.answer c.settled-asking.result.left (sym c.in-Some.ensures.asking))
+    (rank_heard c.args.table.now.entries c.requests.at c.in-Some.asking c.in-Some-result.answer c.settle.new.self.left (sym c.in-Some.ensures.asking))
