@@ -120,7 +120,8 @@ put_fields (size ∷ sizes) bytes at [] = bytes
 put_fields (size ∷ sizes) bytes at (field ∷ fields) = put_fields sizes (put_at bytes at field) (at + size) fields
 
 -- are their joined bytes put at once
-pub put_fields-joined : (sizes : List ℕ) (bytes : List ℕ) (at : ℕ) (fields : List (List ℕ)) → map length fields ≡ sizes → at + total sizes ≤ length bytes → put_fields sizes bytes at fields ≡ put_at bytes at (joined fields)
+pub put_fields-joined : (sizes : List ℕ) (bytes : List ℕ) (at : ℕ) (fields : List (List ℕ)) → map length fields ≡ sizes → at + total sizes ≤ length bytes →
+    put_fields sizes bytes at fields ≡ put_at bytes at (joined fields)
 put_fields-joined [] bytes at [] same h = sym (put_at-nil bytes at)
 put_fields-joined [] bytes at (field ∷ fields) same h = absurd cc
 put_fields-joined (size ∷ sizes) bytes at [] same h = absurd cc

@@ -1,5 +1,6 @@
 -- Walks over items that stand one after another.
-use Rattle.std.proofs.Common.{◌≡◌, ℕ, zero, suc, ◌+◌, ◌<◌, ◌≤◌, inl, inr, true, false, Bool, List, [], ◌∷◌, ◌++◌, length, take, drop, Result, Ok, Err, refl, sym, ap, subst, ◌∙◌, arith, length-append, length-drop}
+use Rattle.std.proofs.Common.{◌≡◌, ℕ, zero, suc, ◌+◌, ◌<◌, ◌≤◌, inl, inr, true, false, Bool, List, [], ◌∷◌, ◌++◌, length, take, drop, Result, Ok, Err, refl}
+use Rattle.std.proofs.Common.{sym, ap, subst, ◌∙◌, arith, length-append, length-drop}
 use Rattle.std.proofs.lemmas.Bool.{cases_Bool, cond-true, cond-false}
 use Rattle.std.proofs.lemmas.List.{nil_from_length, take-append-drop, drop_at, length-take}
 use Rattle.base_model.specs.Bytes.{AreBytes}
@@ -46,12 +47,14 @@ items_by_length walk most index at rest (Ok len) = walk.item at rest len ∷ ite
 items_by_length walk most index at rest (Err error) = []
 
 -- at a fault
-fault_now : {X E : Type 0} (walk : Walk X E) (most index at : ℕ) (rest : List ℕ) (error : E) → walk.ends rest ≡ false → walk.size index at rest ≡ Err error → item_count walk (suc most) index at rest ≡ Err error
+fault_now : {X E : Type 0} (walk : Walk X E) (most index at : ℕ) (rest : List ℕ) (error : E) → walk.ends rest ≡ false → walk.size index at rest ≡ Err error →
+    item_count walk (suc most) index at rest ≡ Err error
 unfolding item_count
 fault_now walk most index at rest error h e =
     cond-false (walk.ends rest) (Ok index) _ h ∙ ap (count_by_length walk most index at rest) e
 
-items_fault_now : {X E : Type 0} (walk : Walk X E) (most index at : ℕ) (rest : List ℕ) (error : E) → walk.ends rest ≡ false → walk.size index at rest ≡ Err error → items_in walk (suc most) index at rest ≡ []
+items_fault_now : {X E : Type 0} (walk : Walk X E) (most index at : ℕ) (rest : List ℕ) (error : E) → walk.ends rest ≡ false → walk.size index at rest
+    ≡ Err error → items_in walk (suc most) index at rest ≡ []
 unfolding items_in
 items_fault_now walk most index at rest error h e =
     cond-false (walk.ends rest) [] _ h ∙ ap (items_by_length walk most index at rest) e
@@ -161,7 +164,8 @@ counts_none walk Is Rest most index at n rest f h e =
 
 counts_by : {X E : Type 0} (walk : Walk X E) (Is : ℕ → X → List ℕ → Type 0) (Rest : List ℕ → Type 0) (most index at n : ℕ) (rest : List ℕ) → GetsOn walk → IsFaithful walk Is Rest → AreBytes rest
     → walk.ends rest ≡ false → item_count walk (suc most) index at rest ≡ Ok n
-    → ((m : ℕ) → walk.size index at rest ≡ Ok m → item_count walk most (index + 1) (at + m) (drop m rest) ≡ Ok n → Counts Is Rest (index + 1) n (at + m) (drop m rest) (items_in walk most (index + 1) (at + m) (drop m rest)))
+    → ((m : ℕ) → walk.size index at rest ≡ Ok m → item_count walk most (index + 1) (at + m) (drop m rest) ≡ Ok n → Counts Is Rest (index + 1) n (at + m)
+    (drop m rest) (items_in walk most (index + 1) (at + m) (drop m rest)))
     → Length (walk.size index at rest) → Counts Is Rest index n at rest (items_in walk (suc most) index at rest)
 counts_by walk Is Rest most index at n rest g f each h e next (of m here) =
     let within = g.within index at m rest here in
@@ -203,7 +207,8 @@ pub record CountsAgain {X E : Type 0} (walk : Walk X E) (most index at : ℕ) (r
   pub count : item_count walk most index at rest ≡ Ok (index + length items)
   pub read : items_in walk most index at rest ≡ items
 
-pub counts_again : {X E : Type 0} (walk : Walk X E) (Is : ℕ → X → List ℕ → Type 0) (Rest : List ℕ → Type 0) (items : List X) (most index at : ℕ) (bytes : List ℕ) → GetsOn walk → IsFaithful walk Is Rest
+pub counts_again : {X E : Type 0} (walk : Walk X E) (Is : ℕ → X → List ℕ → Type 0) (Rest : List ℕ → Type 0) (items : List X) (most index at : ℕ)
+    (bytes : List ℕ) → GetsOn walk → IsFaithful walk Is Rest
     → AreItems Is Rest at items bytes → length bytes ≤ most → CountsAgain walk most index at bytes items
 counts_again {X} {E} walk Is Rest [] most index at bytes g f are k =
     let done = f.ends_again bytes are in

@@ -13,7 +13,9 @@ use Rattle.erst_session.specs.declared.errors.SessionError.TheVariants as sessio
 use Rattle.erst_session.specs.declared.errors.WorkError.{WorkError}
 use Rattle.erst_session.specs.declared.errors.WorkError.TheVariants as works
 use Rattle.apei_c.specs.declared.status.Status.{Status}
-use Rattle.apei_c.specs.declared.status.Status.TheVariants.{Done, Nothing, Short, Busy, Memory, Table, Unattached, NonVolatile, NoRange, NoSpace, Hardware, Failed, Empty, NotFound, Frame, TooLong, SmallBuffer, BadLength, Unknown, Trailing, TooLate, Steps, NoAction, Fault, Program, ListFull}
+use Rattle.apei_c.specs.declared.status.Status.TheVariants.{Done, Nothing, Short, Busy, Memory, Table, Unattached, NonVolatile, NoRange, NoSpace, Hardware}
+use Rattle.apei_c.specs.declared.status.Status.TheVariants.{Failed, Empty, NotFound, Frame, TooLong, SmallBuffer, BadLength, Unknown, Trailing, TooLate, Steps}
+use Rattle.apei_c.specs.declared.status.Status.TheVariants.{NoAction, Fault, Program, ListFull}
 
 abbrev pub status_of_table : ErstError → Status
 status_of_table (tables.Table why) = Table

@@ -11,7 +11,9 @@ use Rattle.ghes_port.specs.declared.errors.SubmitError.TheVariants as submitting
 use Rattle.ghes_port.specs.declared.boot.BootError.{BootError}
 use Rattle.ghes_port.specs.declared.boot.BootError.TheVariants as laying
 use Rattle.apei_c.specs.declared.status.Status.{Status}
-use Rattle.apei_c.specs.declared.status.Status.TheVariants.{Done, Nothing, Busy, Memory, Count, Reserved, Preallocation, Notification, Length, Places, AddressRegister, Address, AckRegister, Mask, Zero, Alignment, Late, Clash, Identifier, Full, Long, Block, Waits, Region}
+use Rattle.apei_c.specs.declared.status.Status.TheVariants.{Done, Nothing, Busy, Memory, Count, Reserved, Preallocation, Notification, Length, Places}
+use Rattle.apei_c.specs.declared.status.Status.TheVariants.{AddressRegister, Address, AckRegister, Mask, Zero, Alignment, Late, Clash, Identifier, Full, Long}
+use Rattle.apei_c.specs.declared.status.Status.TheVariants.{Block, Waits, Region}
 
 abbrev pub status_of_sources : OpenError → Status
 status_of_sources (opening.Count found) = Count

@@ -5,8 +5,12 @@ use Rattle.erst_port.specs.declared.errors.PortError.TheVariants.{BadAccess, Due
 use Rattle.erst_port.specs.declared.errors.OpenError.{OpenError}
 use Rattle.erst_port.specs.declared.errors.OpenError.TheVariants.{Foreign as IsForeign, Version as OtherVersion, Size as OtherSize, Addresses as BadAddresses, Memory as NoMemory}
 use Rattle.apei_c.specs.declared.status.Status.{Status}
-use Rattle.apei_c.specs.declared.status.Status.TheVariants.{Done, Closed, Open, Window, Access, Due, Nothing, Short, Busy, Flash, Memory, Geometry, Foreign, Version, Size, Addresses, Bad, Unsaved, SavedVersion, SavedFlash, Source, Count, SourceType, Reserved, Preallocation, Notification, Length, Places, AddressRegister, Address, AckRegister, Mask, Zero, Alignment, Late, Clash, Identifier, Full, Long, Block, Waits, Choice, Region}
-use Rattle.apei_c.specs.declared.status.Status.TheVariants.{Table, Unattached, NonVolatile, NoRange, NoSpace, Hardware, Failed, Empty, NotFound, Frame, TooLong, SmallBuffer, BadLength, Unknown, Trailing, TooLate, Steps, NoAction, Fault, Program, ListFull}
+use Rattle.apei_c.specs.declared.status.Status.TheVariants.{Done, Closed, Open, Window, Access, Due, Nothing, Short, Busy, Flash, Memory, Geometry, Foreign}
+use Rattle.apei_c.specs.declared.status.Status.TheVariants.{Version, Size, Addresses, Bad, Unsaved, SavedVersion, SavedFlash, Source, Count, SourceType}
+use Rattle.apei_c.specs.declared.status.Status.TheVariants.{Reserved, Preallocation, Notification, Length, Places, AddressRegister, Address, AckRegister, Mask}
+use Rattle.apei_c.specs.declared.status.Status.TheVariants.{Zero, Alignment, Late, Clash, Identifier, Full, Long, Block, Waits, Choice, Region}
+use Rattle.apei_c.specs.declared.status.Status.TheVariants.{Table, Unattached, NonVolatile, NoRange, NoSpace, Hardware, Failed, Empty, NotFound, Frame, TooLong}
+use Rattle.apei_c.specs.declared.status.Status.TheVariants.{SmallBuffer, BadLength, Unknown, Trailing, TooLate, Steps, NoAction, Fault, Program, ListFull}
 
 abbrev pub number_of : Status → ℕ
 number_of Done = 0

@@ -26,7 +26,8 @@ use Rattle.apei_check.specs.Frames.{AreRecordLines, AreBlockLines}
 use Rattle.apei_check.specs.declared.text.show.Show.{Show}
 
 -- bytes that begin with one item at most, and are not refused then, have one list of lines
-module _ {X E : Type 0} (Is : X → List ℕ → Type 0) (head : X → ℕ → ℕ → List ℕ) (parts : X → List (List ℕ)) (Refuses : List ℕ → E → Type 0) (front : List ℕ) (words : E → List ℕ) (show : Show) (bytes : List ℕ)
+module _ {X E : Type 0} (Is : X → List ℕ → Type 0) (head : X → ℕ → ℕ → List ℕ) (parts : X → List (List ℕ)) (Refuses : List ℕ → E → Type 0) (front : List ℕ)
+    (words : E → List ℕ) (show : Show) (bytes : List ℕ)
     (same : (a b : X) (n m : ℕ) → n ≤ length bytes → m ≤ length bytes → Is a (take n bytes) → Is b (take m bytes) → (a ≡ b) × (n ≡ m))
     (never : (a : X) (n : ℕ) (why : E) → n ≤ length bytes → Is a (take n bytes) → Refuses bytes why → ⊥)
     (one : (why other : E) → Refuses bytes why → Refuses bytes other → why ≡ other) where

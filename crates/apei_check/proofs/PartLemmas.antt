@@ -30,7 +30,8 @@ pub numbered_of : {X : Type 0} (line : ℕ → X → List ℕ) (parts : List X) 
     → line i part ≡ get_or (numbered_lines line parts) i []
 numbered_of line parts i part within is = ap (λ p. line i p) (sym (get_or_from_slice_get parts i part part is)) ∙ numbered_at line parts i part within
 
-pub section_line_at : (sections : List SectionValue) (k : ℕ) (section : SectionValue) → slice_get sections k ≡ Some section → section_line k section ≡ get_or (numbered_lines section_line sections) k []
+pub section_line_at : (sections : List SectionValue) (k : ℕ) (section : SectionValue) → slice_get sections k ≡ Some section →
+    section_line k section ≡ get_or (numbered_lines section_line sections) k []
 section_line_at sections k section found = numbered_of section_line sections k section (slice_get_within sections k section found) found
 
 -- the line of an entry that was found at its place is the next one

@@ -61,7 +61,8 @@ pub record IsHere (entries : List EntryValue) (index next : ℕ) (entry : EntryV
   pub found : slice_get entries index ≡ Some entry
   pub next_place : next ≡ place_of entries (index + 1)
 
-pub is_here : (entries : List EntryValue) (index at next : ℕ) (entry : EntryValue) → index ≤ length entries → at ≡ place_of entries index → EntryAt entries at next entry → IsHere entries index next entry
+pub is_here : (entries : List EntryValue) (index at next : ℕ) (entry : EntryValue) → index ≤ length entries → at ≡ place_of entries index →
+    EntryAt entries at next entry → IsHere entries index next entry
 is_here entries index at next entry within place there =
     let inside = slice_get_within entries there.index entry there.found in
     let same : there.index ≡ index = same_place entries there.index index (omega arith) within (sym there.place ∙ place) in

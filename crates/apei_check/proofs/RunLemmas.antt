@@ -99,36 +99,45 @@ module _ (told_source told_sink : Type 0) (show : Show) (script rest rest_now wr
       let wants : MayWantMemory text = (read.asked, read.written, read.takes takes) in
       record {
         lines = so_far.lines;
-        ends = λ told. (b.number, stops_at (IsLineOf MayWantMemory) script so_far.lines (last_line b) b.number b.number refl (stands told) (is_line MayWantMemory told_source a b rest rest_now text next same wants));
+        ends = λ told. (
+          b.number,
+          stops_at (IsLineOf MayWantMemory) script so_far.lines (last_line b) b.number b.number refl (stands told)
+              (is_line MayWantMemory told_source a b rest rest_now text next same wants),
+        );
         shown = so_far.shown;
         writes = (so_far.are, λ told. left ∙ so_far.text told);
       }
 
 -- there is no next line
 pub ends_none : (told_source told_sink : Type 0) (order : AreReadInOrder told_source) (show : Show) (script rest rest_now written now : List ℕ) (a b : Reading) (ending : ScriptEnd)
-    → SoFar told_source told_sink show script rest written now a → EndsReading told_source a b rest rest_now ending → ChecksScript (stream_of told_source script rest_now) (stream_of told_sink written now) show ending
+    → SoFar told_source told_sink show script rest written now a → EndsReading told_source a b rest rest_now ending →
+    ChecksScript (stream_of told_source script rest_now) (stream_of told_sink written now) show ending
 ends_none told_source told_sink order show script rest rest_now written now a b ending so_far end = record {
   lines = so_far.lines;
   ends = lines_end IsCheckLine MayWantMemory told_source script rest rest_now so_far.lines a b ending order so_far.read end;
   shown = so_far.shown;
-  writes = whole (TextShows show) (ShowsInPart told_sink show written now) (λ (all : List (List (List ℕ))). told_sink → now ≡ written ++ flat_map lines_text all) told_source a b rest rest_now so_far.lines so_far.shown
+  writes = whole (TextShows show) (ShowsInPart told_sink show written now) (λ (all : List (List (List ℕ))). told_sink → now ≡ written ++ flat_map lines_text
+      all) told_source a b rest rest_now so_far.lines so_far.shown
       ending end (so_far.are, so_far.text);
 }
 
 -- the line that was read is none
-pub ends_bad : (told_source told_sink : Type 0) (show : Show) (script rest rest_now written now text : List ℕ) (a b : Reading) (number column : ℕ) → (so_far : SoFar told_source told_sink show script rest written now a)
+pub ends_bad : (told_source told_sink : Type 0) (show : Show) (script rest rest_now written now text : List ℕ) (a b : Reading) (number column : ℕ) →
+    (so_far : SoFar told_source told_sink show script rest written now a)
     → IsNextLine told_source a b rest rest_now → (told_source → StandsAt script so_far.lines b.number (last_line b)) → number ≡ b.number → text ≡ b.line → BreaksAt IsCheckLine text column
     → ChecksScript (stream_of told_source script rest_now) (stream_of told_sink written now) show (BadLine number column)
 ends_bad told_source told_sink show script rest rest_now written now text a b number column so_far next stands numbered same breaks = record {
   lines = so_far.lines;
-  ends = λ told. stops_at (IsBadFrom IsCheckLine column) script so_far.lines (last_line b) number b.number numbered (stands told) (is_bad IsCheckLine told_source a b rest rest_now text column next same breaks);
+  ends = λ told. stops_at (IsBadFrom IsCheckLine column) script so_far.lines (last_line b) number b.number numbered (stands told)
+      (is_bad IsCheckLine told_source a b rest rest_now text column next same breaks);
   shown = so_far.shown;
   writes = (so_far.are, so_far.text);
 }
 
 -- where all lines are in the grammar and no fault was counted, all are read
 pub is_done : (told_source told_sink : Type 0) (show : Show) (script rest written now : List ℕ) (source source_now sink sink_now : ℕ) (ending : ScriptEnd)
-    → ChecksScript (stream_of told_source script rest) (stream_of told_sink written now) show ending → HasCauseOf OfSource source source_now (fault_of ending) → HasCauseOf OfSink sink sink_now (fault_of ending)
+    → ChecksScript (stream_of told_source script rest) (stream_of told_sink written now) show ending → HasCauseOf OfSource source source_now (fault_of ending) →
+    HasCauseOf OfSink sink sink_now (fault_of ending)
     → told_source → All (IsLineOf IsCheckLine) (lines_of 0 script) → (Rose source source_now → ⊥) → (Rose sink sink_now → ⊥) → (ending ≡ Done) ⊎ (ending ≡ Memory)
 is_done told_source told_sink show script rest written now source source_now sink sink_now ending checks in_cause out_cause told all no_source no_sink =
     lines_done IsCheckLine MayWantMemory script rest checks.lines source source_now sink sink_now ending (checks.ends told) in_cause out_cause all no_source no_sink

@@ -21,15 +21,18 @@ use Rattle.apei_check.specs.TableLines.{entry_line, source_line}
 use Rattle.apei_check.specs.Tables.{AreErstLines, AreHestLines, AreBertLines}
 
 pub erst_lines : (show : Show) (bytes : List ℕ) (erst : Erst) (len : ℕ) → IsErst erst (take len bytes) → FitsErst erst → len ≤ length bytes
-    → AreErstLines show bytes (lines_shown show (codes "erst " ++ decimal len ++ codes " entries " ++ decimal (length erst.entries) ++ codes " rest " ++ decimal (length bytes - len)) (numbered_lines entry_line erst.entries))
+    → AreErstLines show bytes (lines_shown show (codes "erst " ++ decimal len ++ codes " entries " ++ decimal (length erst.entries) ++ codes " rest "
+    ++ decimal (length bytes - len)) (numbered_lines entry_line erst.entries))
 erst_lines show bytes erst len is fits within = inl (record { item = erst; size = len; within = within; is = (is, fits); shown = refl })
 
 pub hest_lines : (show : Show) (bytes : List ℕ) (sources : List HestSource) (len : ℕ) → IsHest sources (take len bytes) → len ≤ length bytes
-    → AreHestLines show bytes (lines_shown show (codes "hest " ++ decimal len ++ codes " sources " ++ decimal (length sources) ++ codes " rest " ++ decimal (length bytes - len)) (numbered_lines source_line sources))
+    → AreHestLines show bytes (lines_shown show (codes "hest " ++ decimal len ++ codes " sources " ++ decimal (length sources) ++ codes " rest "
+    ++ decimal (length bytes - len)) (numbered_lines source_line sources))
 hest_lines show bytes sources len is within = inl (record { item = sources; size = len; within = within; is = is; shown = refl })
 
 pub bert_lines : (show : Show) (bytes : List ℕ) (bert : Bert) (len : ℕ) → IsBert bert (take len bytes) → len ≤ length bytes
-    → AreBertLines show bytes (lines_shown show (codes "bert " ++ decimal len ++ codes " region " ++ decimal bert.region ++ codes " bytes " ++ decimal bert.len ++ codes " rest " ++ decimal (length bytes - len)) [])
+    → AreBertLines show bytes (lines_shown show (codes "bert " ++ decimal len ++ codes " region " ++ decimal bert.region ++ codes " bytes " ++ decimal bert.len
+    ++ codes " rest " ++ decimal (length bytes - len)) [])
 bert_lines show bytes bert len is within = inl (record { item = bert; size = len; within = within; is = is; shown = refl })
 
 -- an error that has words is the first reason

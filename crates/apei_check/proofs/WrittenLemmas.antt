@@ -87,19 +87,22 @@ wrote_unasked told lines a asked is same off = subst (λ (b : Bool). Writes told
 pub wrote_shown : (told : Type 0) (show : Show) (line head : List ℕ) (parts : List (List ℕ)) (a b c : List ℕ) → line ≡ head
     → Writes told (if (bit_and show.0 1 == 1) then line ∷ [] else []) a b → Writes told (if (bit_and show.0 2 == 2) then parts else []) b c → Writes told (lines_shown show head parts) a c
 wrote_shown told show line head parts a b c is first second =
-    wrote_more told (if (bit_and show.0 1 == 1) then head ∷ [] else []) (if (bit_and show.0 2 == 2) then parts else []) a b c (subst (λ (x : List ℕ). Writes told (if (bit_and show.0 1 == 1) then x ∷ [] else []) a b) is first) second
+    wrote_more told (if (bit_and show.0 1 == 1) then head ∷ [] else []) (if (bit_and show.0 2 == 2) then parts else []) a b c
+    (subst (λ (x : List ℕ). Writes told (if (bit_and show.0 1 == 1) then x ∷ [] else []) a b) is first) second
 
 -- the line on the whole, and then a beginning of those on the parts
 pub wrote_parts_broken : (told : Type 0) (show : Show) (line head : List ℕ) (parts : List (List ℕ)) (a b c : List ℕ) → line ≡ head
     → Writes told (if (bit_and show.0 1 == 1) then line ∷ [] else []) a b → WritesPart told (if (bit_and show.0 2 == 2) then parts else []) b c → WritesPart told (lines_shown show head parts) a c
 wrote_parts_broken told show line head parts a b c is first second =
-    wrote_and_part told (if (bit_and show.0 1 == 1) then head ∷ [] else []) (if (bit_and show.0 2 == 2) then parts else []) a b c (subst (λ (x : List ℕ). Writes told (if (bit_and show.0 1 == 1) then x ∷ [] else []) a b) is first) second
+    wrote_and_part told (if (bit_and show.0 1 == 1) then head ∷ [] else []) (if (bit_and show.0 2 == 2) then parts else []) a b c
+    (subst (λ (x : List ℕ). Writes told (if (bit_and show.0 1 == 1) then x ∷ [] else []) a b) is first) second
 
 -- a beginning of the line on the whole
 pub wrote_head_broken : (told : Type 0) (show : Show) (line head : List ℕ) (parts : List (List ℕ)) (a b : List ℕ) → line ≡ head
     → WritesPart told (if (bit_and show.0 1 == 1) then line ∷ [] else []) a b → WritesPart told (lines_shown show head parts) a b
 wrote_head_broken told show line head parts a b is first =
-    wrote_part_of_more told (if (bit_and show.0 1 == 1) then head ∷ [] else []) (if (bit_and show.0 2 == 2) then parts else []) a b (subst (λ (x : List ℕ). WritesPart told (if (bit_and show.0 1 == 1) then x ∷ [] else []) a b) is first)
+    wrote_part_of_more told (if (bit_and show.0 1 == 1) then head ∷ [] else []) (if (bit_and show.0 2 == 2) then parts else []) a b
+    (subst (λ (x : List ℕ). WritesPart told (if (bit_and show.0 1 == 1) then x ∷ [] else []) a b) is first)
 
 -- the same where those on the parts are asked for
 pub wrote_item : (told : Type 0) (show : Show) (line : List ℕ) (parts : List (List ℕ)) (a b c : List ℕ) (asked : Bool) → asked ≡ (bit_and show.0 2 == 2) → asked ≡ true

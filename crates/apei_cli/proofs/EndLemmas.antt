@@ -24,11 +24,46 @@ pub record HasStatus (tells : Type 0) (end : ScriptEnd) : Type 0 where
 
 pub has_status : (tells : Type 0) (end : ScriptEnd) → HasStatus tells end
 has_status tells ending.Done = record { fault = refl; later = λ first. first; no_flash = λ e. cc e; leaves = λ machine. refl; ends = λ script rest lines last final ends. (ending.Done, refl, ends) }
-has_status tells (ending.BadLine line column) = record { fault = refl; later = λ first. first; no_flash = λ e. cc e; leaves = λ machine. refl; ends = λ script rest lines last final ends. (ending.BadLine line column, refl, ends) }
-has_status tells ending.SourceFault = record { fault = refl; later = λ first. first; no_flash = λ e. cc e; leaves = λ machine. refl; ends = λ script rest lines last final ends. (ending.SourceFault, refl, ends) }
-has_status tells ending.SinkFault = record { fault = refl; later = λ first. first; no_flash = λ e. cc e; leaves = λ machine. refl; ends = λ script rest lines last final ends. (ending.SinkFault, refl, ends) }
-has_status tells (ending.TooLong line) = record { fault = refl; later = λ first. first; no_flash = λ e. cc e; leaves = λ machine. refl; ends = λ script rest lines last final ends. (ending.TooLong line, refl, ends) }
-has_status tells ending.Memory = record { fault = refl; later = λ first. first; no_flash = λ e. cc e; leaves = λ machine. refl; ends = λ script rest lines last final ends. (ending.Memory, refl, ends) }
+has_status tells (ending.BadLine line column) = record {
+  fault = refl;
+  later = λ first. first;
+  no_flash = λ e. cc e;
+  leaves = λ machine. refl;
+  ends =
+      λ script rest lines last final ends. (ending.BadLine line column, refl, ends);
+}
+has_status tells ending.SourceFault = record {
+  fault = refl;
+  later = λ first. first;
+  no_flash = λ e. cc e;
+  leaves = λ machine. refl;
+  ends =
+      λ script rest lines last final ends. (ending.SourceFault, refl, ends);
+}
+has_status tells ending.SinkFault = record {
+  fault = refl;
+  later = λ first. first;
+  no_flash = λ e. cc e;
+  leaves = λ machine. refl;
+  ends =
+      λ script rest lines last final ends. (ending.SinkFault, refl, ends);
+}
+has_status tells (ending.TooLong line) = record {
+  fault = refl;
+  later = λ first. first;
+  no_flash = λ e. cc e;
+  leaves = λ machine. refl;
+  ends =
+      λ script rest lines last final ends. (ending.TooLong line, refl, ends);
+}
+has_status tells ending.Memory = record {
+  fault = refl;
+  later = λ first. first;
+  no_flash = λ e. cc e;
+  leaves = λ machine. refl;
+  ends =
+      λ script rest lines last final ends. (ending.Memory, refl, ends);
+}
 
 pub never_first : (end : ScriptEnd) → ComesBeforeBoot (status_of end) → ⊥
 never_first end = (has_status (Unit {0}) end).later

@@ -163,7 +163,8 @@ SoFar-start tells old seed tally is = record {
 }
 
 next_so_far : (tells : Type 0) (old : PlayerState) (seed n : ℕ) (mid new : PlayerState) (number : ℕ) (tally tally_now : Tally) (command : Command) (refused : Bool)
-    → SoFar tells old seed n mid number tally → command ≡ command_of ((number_behind number) / 2 ^ 33) → IsRefusedIf refused tells mid (line_for command) new → (tells → changes_of new.machine ≡ (changes_in new.machine))
+    → SoFar tells old seed n mid number tally → command ≡ command_of ((number_behind number) / 2 ^ 33) → IsRefusedIf refused tells mid (line_for command) new →
+    (tells → changes_of new.machine ≡ (changes_in new.machine))
     → tally_now ≡ counted_refusal refused (counted_kind command tally) → SoFar tells old seed (suc n) new (number_behind number) tally_now
 next_so_far tells old seed n mid new number tally tally_now command refused sofar made asked counted counts =
     let before = sofar.so_far in
@@ -192,7 +193,8 @@ next_so_far tells old seed n mid new number tally tally_now command refused sofa
     }
 
 pub SoFar-next : (tells : Type 0) (old : PlayerState) (seed n : ℕ) (mid new : PlayerState) (number : ℕ) (tally tally_now : Tally) (command : Command) (refused : Bool)
-    → SoFar tells old seed n mid number tally → command ≡ command_of ((number_behind number) / 2 ^ 33) → IsRefusedIf refused tells mid (line_for command) new → (tells → changes_of new.machine ≡ (changes_in new.machine))
+    → SoFar tells old seed n mid number tally → command ≡ command_of ((number_behind number) / 2 ^ 33) → IsRefusedIf refused tells mid (line_for command) new →
+    (tells → changes_of new.machine ≡ (changes_in new.machine))
     → tally_now ≡ counted_refusal refused (counted_kind command tally) → SoFar tells old seed (n + 1) new (number_behind number) tally_now
 SoFar-next tells old seed n mid new number tally tally_now command refused sofar made asked counted counts =
     subst (λ (k : ℕ). SoFar tells old seed k new (number_behind number) tally_now) (omega arith)

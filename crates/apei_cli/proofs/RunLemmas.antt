@@ -40,7 +40,8 @@ AreCounted-push (played ∷ rest) one before is = (before.0, AreCounted-push res
 
 text_of-push : (some : List Played) (played : Played) → text_of (some ++ played ∷ []) ≡ text_of some ++ (text_of_replies played.said)
 text_of-push [] played = append-nil (text_of_replies played.said)
-text_of-push (first ∷ some) played = ap (λ (bs : List ℕ). (text_of_replies first.said) ++ bs) (text_of-push some played) ∙ sym (append_assoc (text_of_replies first.said) (text_of some) (text_of_replies played.said))
+text_of-push (first ∷ some) played = ap (λ (bs : List ℕ). (text_of_replies first.said) ++ bs) (text_of-push some played)
+    ∙ sym (append_assoc (text_of_replies first.said) (text_of some) (text_of_replies played.said))
 
 pub blocks_of-push : (some : List Played) (played : Played) → blocks_of (some ++ played ∷ []) ≡ blocks_of some ++ played.blocks
 blocks_of-push [] played = append-nil played.blocks
@@ -56,7 +57,8 @@ counts_after-push : (wants : List (ℕ → Bool)) (some : List Played) (played :
 counts_after-push wants [] played counts = refl
 counts_after-push wants (first ∷ some) played counts = counts_after-push wants some played (heard_after wants first.blocks counts)
 
-pub Follows-push : (tells : Type 0) (wants : List (ℕ → Bool)) (counts : List ℕ) (first : PlayerState) (some : List Played) (mid : PlayerState) (played : Played) → Follows tells wants counts first some mid
+pub Follows-push : (tells : Type 0) (wants : List (ℕ → Bool)) (counts : List ℕ) (first : PlayerState) (some : List Played) (mid : PlayerState) (played : Played)
+    → Follows tells wants counts first some mid
     → LinePlayed tells (counts_after wants some counts) mid played → Follows tells wants counts first (some ++ played ∷ []) played.left
 Follows-push tells wants counts first [] mid played is line = (subst (λ (p : PlayerState). LinePlayed tells counts p played) is line, refl)
 Follows-push tells wants counts first (one ∷ some) mid played is line = (is.0, Follows-push tells wants (heard_after wants one.blocks counts) one.left some mid played is.1 line)
@@ -82,7 +84,8 @@ module _ {L : Type 0} (hearing : L → Hearing) (told_source told_sink tells : T
 module _ {L : Type 0} (hearing : L → Hearing) (told_source told_sink tells : Type 0) (order : AreReadInOrder told_source) where
   -- nothing was read
   pub SoFar-start : (script written : List ℕ) (listeners : List L) (player : PlayerState) (reading : Reading)
-      → reading ≡ record { line = []; number = 0; end = 0; pending = []; at_end = false } → SoFar hearing told_source told_sink tells script script written written listeners listeners player player reading
+      → reading ≡ record { line = []; number = 0; end = 0; pending = []; at_end = false } → SoFar hearing told_source told_sink tells script script written
+      written listeners listeners player player reading
   SoFar-start script written listeners player reading start =
       subst (SoFar hearing told_source told_sink tells script script written written listeners listeners player player) (sym start) (record {
         lines = [];
@@ -105,7 +108,8 @@ module _ {L : Type 0} (hearing : L → Hearing) (told_source told_sink tells : T
       stops_at Is script so_far.lines (last_line b) number b.number numbered (order.stands script rest rest_now so_far.lines a b so_far.read next told) is
 
   -- a line that was played, behind some
-  module _ (script rest written middle : List ℕ) (first members : List L) (old mid : PlayerState) (a : Reading) (so_far : SoFar hearing told_source told_sink tells script rest written middle first members old mid a)
+  module _ (script rest written middle : List ℕ) (first members : List L) (old mid : PlayerState) (a : Reading)
+      (so_far : SoFar hearing told_source told_sink tells script rest written middle first members old mid a)
       (line : ScriptLine) (said : List Reply) (blocks : List (List ℕ)) (steps : List Step) (new : PlayerState) (members_now : List L)
       (played : LinePlayed tells (counts_of hearing members) mid (played_as line said blocks steps new)) (told : Told hearing blocks members members_now) where
     history_then : Follows tells (wants_of hearing first) (counts_of hearing first) old (so_far.played ++ played_as line said blocks steps new ∷ []) new
@@ -126,7 +130,8 @@ module _ {L : Type 0} (hearing : L → Hearing) (told_source told_sink tells : T
 
   -- one more line was read and played
   pub SoFar-played : (script rest rest_now written middle now : List ℕ) (first members members_now : List L) (old mid new : PlayerState) (a b : Reading) (line : ScriptLine)
-      → SoFar hearing told_source told_sink tells script rest written middle first members old mid a → IsNextLine told_source a b rest rest_now → IsLineOf (λ (text : List ℕ). Means text line) (last_line b)
+      → SoFar hearing told_source told_sink tells script rest written middle first members old mid a → IsNextLine told_source a b rest rest_now →
+      IsLineOf (λ (text : List ℕ). Means text line) (last_line b)
       → PlaysLine hearing tells (stream_of told_sink middle now) (stage_in mid members) line (stage_in new members_now) → (tells → changes_of new.machine ≡ (changes_in new.machine))
       → SoFar hearing told_source told_sink tells script rest_now written now first members_now old new b
   SoFar-played script rest rest_now written middle now first members members_now old mid new a b line so_far next is plays counts = record {
@@ -149,7 +154,8 @@ module _ {L : Type 0} (hearing : L → Hearing) (told_source told_sink tells : T
   -- a run that ends behind the lines that were played whole, with the listeners as these left them
   stopped : (script rest rest_now written middle now : List ℕ) (first members members_now : List L) (old mid new : PlayerState) (a : Reading) (status : Status)
       → (so_far : SoFar hearing told_source told_sink tells script rest written middle first members old mid a)
-      → LinesOf tells (stream_of told_source script rest_now) (stream_of told_sink written now) status so_far.played mid new.machine → LeavesLast tells mid.machine new.machine status → members_now ≡ members
+      → LinesOf tells (stream_of told_source script rest_now) (stream_of told_sink written now) status so_far.played mid new.machine →
+      LeavesLast tells mid.machine new.machine status → members_now ≡ members
       → (status ≡ FlashFault → HasHappened tells mid.machine new.machine × Rose mid.machine.device.store.flash.faults new.machine.device.store.flash.faults)
       → PlaysScript hearing tells (stream_of told_source script rest_now) (stream_of told_sink written now) (stage_in old first) (stage_in new members_now) status
   stopped script rest rest_now written middle now first members members_now old mid new a status so_far lines behind quiet fault = record {
@@ -166,7 +172,8 @@ module _ {L : Type 0} (hearing : L → Hearing) (told_source told_sink tells : T
   -- and whose machine is as they left it
   as_so_far : (script rest rest_now written middle now : List ℕ) (first members : List L) (old new : PlayerState) (a : Reading) (status : Status)
       → (so_far : SoFar hearing told_source told_sink tells script rest written middle first members old new a)
-      → LinesOf tells (stream_of told_source script rest_now) (stream_of told_sink written now) status so_far.played new new.machine → LeavesLast tells new.machine new.machine status → (status ≡ FlashFault → ⊥)
+      → LinesOf tells (stream_of told_source script rest_now) (stream_of told_sink written now) status so_far.played new new.machine →
+      LeavesLast tells new.machine new.machine status → (status ≡ FlashFault → ⊥)
       → PlaysScript hearing tells (stream_of told_source script rest_now) (stream_of told_sink written now) (stage_in old first) (stage_in new members) status
   as_so_far script rest rest_now written middle now first members old new a status so_far lines behind other =
       stopped script rest rest_now written middle now first members members old new new a status so_far lines behind refl (λ e. absurd (other e))
@@ -180,7 +187,8 @@ module _ {L : Type 0} (hearing : L → Hearing) (told_source told_sink tells : T
       as_so_far script rest rest_now written now now first members old new a (status_of ended) so_far (record {
         lines = so_far.lines;
         ends = λ told. has.ends script rest_now so_far.lines new.machine new.machine (lines_end IsLine GivesTable told_source script rest rest_now so_far.lines a b ended order so_far.read end told);
-        are = subst (PlaysByFault (λ (text : List ℕ) (one : Played). Means text one.line) (IsUnwritten (stream_of told_sink written now)) (λ (all : List Played). told_sink → now ≡ written ++ text_of all) so_far.lines so_far.played)
+        are = subst (PlaysByFault (λ (text : List ℕ) (one : Played). Means text one.line) (IsUnwritten (stream_of told_sink written now))
+            (λ (all : List Played). told_sink → now ≡ written ++ text_of all) so_far.lines so_far.played)
             has.fault
             (whole (λ (text : List ℕ) (one : Played). Means text one.line) (IsUnwritten (stream_of told_sink written now)) (λ (all : List Played). told_sink → now ≡ written ++ text_of all)
             told_source a b rest rest_now so_far.lines so_far.played ended end (so_far.are, so_far.text));
@@ -189,7 +197,8 @@ module _ {L : Type 0} (hearing : L → Hearing) (told_source told_sink tells : T
 
   -- the line that was read is none
   pub ends_bad : (script rest rest_now written now text : List ℕ) (first members : List L) (old new : PlayerState) (a b : Reading) (number column : ℕ)
-      → IsNextLine told_source a b rest rest_now → number ≡ b.number → text ≡ b.line → BreaksAt IsLine text column → SoFar hearing told_source told_sink tells script rest written now first members old new a
+      → IsNextLine told_source a b rest rest_now → number ≡ b.number → text ≡ b.line → BreaksAt IsLine text column → SoFar hearing told_source told_sink tells
+      script rest written now first members old new a
       → PlaysScript hearing tells (stream_of told_source script rest_now) (stream_of told_sink written now) (stage_in old first) (stage_in new members) (BadLine number column)
   ends_bad script rest rest_now written now text first members old new a b number column next numbered same breaks so_far =
       as_so_far script rest rest_now written now now first members old new a (BadLine number column) so_far (record {
@@ -197,7 +206,8 @@ module _ {L : Type 0} (hearing : L → Hearing) (told_source told_sink tells : T
         ends = λ told. (
           ending.BadLine number column,
           refl,
-          stops_here (IsBadFrom IsLine column) script rest rest_now written now first members old new a b number so_far next numbered (is_bad IsLine told_source a b rest rest_now text column next same breaks) told,
+          stops_here (IsBadFrom IsLine column) script rest rest_now written now first members old new a b number so_far next numbered
+              (is_bad IsLine told_source a b rest rest_now text column next same breaks) told,
         );
         are = (so_far.are, so_far.text);
       })
@@ -205,7 +215,8 @@ module _ {L : Type 0} (hearing : L → Hearing) (told_source told_sink tells : T
 
   -- its reply was refused by the sink
   pub ends_unwritten : (script rest rest_now written middle now : List ℕ) (first members members_now : List L) (old mid new : PlayerState) (a b : Reading) (line : ScriptLine)
-      → SoFar hearing told_source told_sink tells script rest written middle first members old mid a → IsNextLine told_source a b rest rest_now → IsLineOf (λ (text : List ℕ). Means text line) (last_line b)
+      → SoFar hearing told_source told_sink tells script rest written middle first members old mid a → IsNextLine told_source a b rest rest_now →
+      IsLineOf (λ (text : List ℕ). Means text line) (last_line b)
       → PlaysUnwritten hearing tells (stream_of told_sink middle now) (stage_in mid members) line (stage_in new members_now) → (tells → changes_of new.machine ≡ (changes_in new.machine))
       → PlaysScript hearing tells (stream_of told_source script rest_now) (stream_of told_sink written now) (stage_in old first) (stage_in new members_now) SinkFault
   ends_unwritten script rest rest_now written middle now first members members_now old mid new a b line so_far next is plays counts = record {
@@ -244,7 +255,8 @@ module _ {L : Type 0} (hearing : L → Hearing) (told_source told_sink tells : T
 
   -- the flash failed in its restart
   pub ends_failed : (script rest rest_now written middle now : List ℕ) (first members members_now : List L) (old mid new : PlayerState) (a b : Reading) (line : ScriptLine) (stop : PlayStop)
-      → SoFar hearing told_source told_sink tells script rest written middle first members old mid a → IsNextLine told_source a b rest rest_now → IsLineOf (λ (text : List ℕ). Means text line) (last_line b)
+      → SoFar hearing told_source told_sink tells script rest written middle first members old mid a → IsNextLine told_source a b rest rest_now →
+      IsLineOf (λ (text : List ℕ). Means text line) (last_line b)
       → Stops tells mid line new stop → stop ≡ RestartFailed → members_now ≡ members → now ≡ middle
       → PlaysScript hearing tells (stream_of told_source script rest_now) (stream_of told_sink written now) (stage_in old first) (stage_in new members_now) FlashFault
   ends_failed script rest rest_now written middle now first members members_now old mid new a b line stop so_far next is stops why quiet said =
@@ -271,7 +283,8 @@ module _ {L : Type 0} (hearing : L → Hearing) (told_source told_sink tells : T
 
   -- there was no memory for its table
   pub ends_memory : (script rest rest_now written middle now : List ℕ) (first members members_now : List L) (old mid new : PlayerState) (a b : Reading) (line : ScriptLine) (stop : PlayStop)
-      → SoFar hearing told_source told_sink tells script rest written middle first members old mid a → IsNextLine told_source a b rest rest_now → IsLineOf (λ (text : List ℕ). Means text line) (last_line b)
+      → SoFar hearing told_source told_sink tells script rest written middle first members old mid a → IsNextLine told_source a b rest rest_now →
+      IsLineOf (λ (text : List ℕ). Means text line) (last_line b)
       → Stops tells mid line new stop → stop ≡ NoMemory → members_now ≡ members → now ≡ middle
       → PlaysScript hearing tells (stream_of told_source script rest_now) (stream_of told_sink written now) (stage_in old first) (stage_in new members_now) Memory
   ends_memory script rest rest_now written middle now first members members_now old mid new a b line stop so_far next is stops why quiet said =

@@ -46,7 +46,8 @@ one_show (Some text) one other a b = cc (sym a ∙ b)
 module _ (rows : List Row) (one other : Plan) (a : IsPlanIn rows one) (b : IsPlanIn rows other) where
   one_plan : one ≡ record other { image = one.image }
   one_plan =
-      same_fields one.job other.job one.sector other.sector one.per_slot other.per_slot one.slots other.slots one.steps other.steps one.cut other.cut one.fail other.fail one.fail_read other.fail_read one.torn other.torn one.count other.count one.seed other.seed one.show.0 other.show.0
+      same_fields one.job other.job one.sector other.sector one.per_slot other.per_slot one.slots other.slots one.steps other.steps one.cut other.cut one.fail
+      other.fail one.fail_read other.fail_read one.torn other.torn one.count other.count one.seed other.seed one.show.0 other.show.0
       (cc (sym a.job ∙ b.job))
       (given_once_or 4096 _ (given Sector rows) one.sector other.sector a.sector b.sector)
       (given_once_or 2 _ (given PerSlot rows) one.per_slot other.per_slot a.per_slot b.per_slot)
@@ -77,10 +78,13 @@ module _ (rows : List Row) (one other : Plan) (a : IsPlanIn rows one) (b : IsPla
         show = record one.show { 0 = show };
       }
 
-      same_fields : (job job' : Job) (sector sector' per_slot per_slot' slots slots' : ℕ) (steps steps' cut cut' fail fail' fail_read fail_read' : Option ℕ) (torn torn' count count' seed seed' show show' : ℕ)
-          → job ≡ job' → sector ≡ sector' → per_slot ≡ per_slot' → slots ≡ slots' → steps ≡ steps' → cut ≡ cut' → fail ≡ fail' → fail_read ≡ fail_read' → torn ≡ torn' → count ≡ count' → seed ≡ seed' → show ≡ show'
+      same_fields : (job job' : Job) (sector sector' per_slot per_slot' slots slots' : ℕ) (steps steps' cut cut' fail fail' fail_read fail_read' : Option ℕ)
+          (torn torn' count count' seed seed' show show' : ℕ)
+          → job ≡ job' → sector ≡ sector' → per_slot ≡ per_slot' → slots ≡ slots' → steps ≡ steps' → cut ≡ cut' → fail ≡ fail' → fail_read ≡ fail_read' →
+          torn ≡ torn' → count ≡ count' → seed ≡ seed' → show ≡ show'
           → plan_of job sector per_slot slots steps cut fail fail_read torn count seed show ≡ plan_of job' sector' per_slot' slots' steps' cut' fail' fail_read' torn' count' seed' show'
-      same_fields job job' sector sector' per_slot per_slot' slots slots' steps steps' cut cut' fail fail' fail_read fail_read' torn torn' count count' seed seed' show show' e1 e2 e3 e4 e5 e6 e7 e8 e9 e10 e11 e12 = cc
+      same_fields job job' sector sector' per_slot per_slot' slots slots' steps steps' cut cut' fail fail' fail_read fail_read' torn torn' count count' seed
+          seed' show show' e1 e2 e3 e4 e5 e6 e7 e8 e9 e10 e11 e12 = cc
 
 -- all but the image is the same
 pub same_plan : (words : List (String Global)) (one other : Plan) → IsPlanOf words one → IsPlanOf words other → one ≡ record other { image = one.image }

@@ -1,5 +1,6 @@
 -- How a run ends that looks at a file.
-use Rattle.std.proofs.Common.{◌≡◌, ◌∙◌, ℕ, ◌-◌, ◌*◌, ◌≤◌, inr, Bool, true, false, cond, List, [], ◌++◌, length, take, drop, min, replicate, Option, Some, None, IfSome, IfOk, Result, Ok, Err, String, Global, string_bytes, refl, sym, ap, subst, arith}
+use Rattle.std.proofs.Common.{◌≡◌, ◌∙◌, ℕ, ◌-◌, ◌*◌, ◌≤◌, inr, Bool, true, false, cond, List, [], ◌++◌, length, take, drop, min, replicate, Option, Some, None}
+use Rattle.std.proofs.Common.{IfSome, IfOk, Result, Ok, Err, String, Global, string_bytes, refl, sym, ap, subst, arith}
 use Rattle.std.proofs.Math.Seq.{take-length}
 use Rattle.std.proofs.Math.Nat.{min_comm}
 use Rattle.std.proofs.lemmas.Bool.{le-leb}

@@ -20,12 +20,16 @@ use Rattle.apei_script.proofs.Lengths.{read_within}
 module _ (tells : Type 0) (client : ClientState) (steps : ℕ) (old : MachineState) where
   -- the machine was asked by a command
   pub asked_to_write : (hex bytes : List ℕ) (result : Result (Unit {0}) ClientError) (budget left : ℕ) (new : MachineState) → decode_of hex ≡ Ok bytes → budget ≡ steps
-      → Writes (Allows tells) client bytes budget old result left new → Reaches (Allows tells) old new → (Asked tells (asker_of client steps) old (write hex) (words_of_write bytes result) new × Reaches (Allows tells) old new)
-  asked_to_write hex bytes result budget left new decoded given asks reaches = (WritesRecord hex bytes result left new decoded (subst (λ (n : ℕ). Writes (Allows tells) client bytes n old result left new) given asks), reaches)
+      → Writes (Allows tells) client bytes budget old result left new → Reaches (Allows tells) old new →
+      (Asked tells (asker_of client steps) old (write hex) (words_of_write bytes result) new × Reaches (Allows tells) old new)
+  asked_to_write hex bytes result budget left new decoded given asks reaches =
+      (WritesRecord hex bytes result left new decoded (subst (λ (n : ℕ). Writes (Allows tells) client bytes n old result left new) given asks), reaches)
 
   pub asked_to_read : (id : ℕ) (out after : List ℕ) (result : Result ℕ ClientError) (budget left : ℕ) (new : MachineState) → length out ≡ READ_BUFFER → budget ≡ steps
-      → Reads (Allows tells) client id out budget old result after left new → Reaches (Allows tells) old new → (Asked tells (asker_of client steps) old (read id) (words_of_read after result) new × Reaches (Allows tells) old new)
-  asked_to_read id out after result budget left new size given asks reaches = (ReadsRecord id out after result left new size (subst (λ (n : ℕ). Reads (Allows tells) client id out n old result after left new) given asks), reaches)
+      → Reads (Allows tells) client id out budget old result after left new → Reaches (Allows tells) old new →
+      (Asked tells (asker_of client steps) old (read id) (words_of_read after result) new × Reaches (Allows tells) old new)
+  asked_to_read id out after result budget left new size given asks reaches =
+      (ReadsRecord id out after result left new size (subst (λ (n : ℕ). Reads (Allows tells) client id out n old result after left new) given asks), reaches)
 
   -- and what a read answers
   pub read_asked : (id : ℕ) (out shown : List ℕ) (result : Result ℕ ClientError) (budget left : ℕ) (new : MachineState) → length out ≡ READ_BUFFER → length shown ≡ length out → budget ≡ steps
@@ -43,19 +47,26 @@ module _ (tells : Type 0) (client : ClientState) (steps : ℕ) (old : MachineSta
   pub asked_to_clear : (id : ℕ) (result : Result (Unit {0}) ClientError) (budget left : ℕ) (new : MachineState) → budget ≡ steps
       → Sequence (Allows tells) client.table.entries client.timings (clear_requests id) budget old result left new → Reaches (Allows tells) old new
       → (Asked tells (asker_of client steps) old (clear id) (words_of_clear id result) new × Reaches (Allows tells) old new)
-  asked_to_clear id result budget left new given asks reaches = (ClearsRecord id result left new (subst (λ (n : ℕ). Sequence (Allows tells) client.table.entries client.timings (clear_requests id) n old result left new) given asks), reaches)
+  asked_to_clear id result budget left new given asks reaches = (
+    ClearsRecord id result left new (subst (λ (n : ℕ). Sequence (Allows tells) client.table.entries client.timings (clear_requests id) n old result left new)
+        given asks),
+    reaches,
+  )
 
   pub asked_to_count : (result : Result ℕ ClientError) (budget left : ℕ) (new : MachineState) → budget ≡ steps
-      → Counts (Allows tells) client.table.entries budget old result left new → Reaches (Allows tells) old new → (Asked tells (asker_of client steps) old count (words_of_count result) new × Reaches (Allows tells) old new)
+      → Counts (Allows tells) client.table.entries budget old result left new → Reaches (Allows tells) old new →
+      (Asked tells (asker_of client steps) old count (words_of_count result) new × Reaches (Allows tells) old new)
   asked_to_count result budget left new given asks reaches = (CountsRecords result left new (subst (λ (n : ℕ). Counts (Allows tells) client.table.entries n old result left new) given asks), reaches)
 
   pub asked_for_next : (result : Result (Option ℕ) ClientError) (budget left : ℕ) (new : MachineState) → budget ≡ steps
-      → Names (Allows tells) client.table.entries budget old result left new → Reaches (Allows tells) old new → (Asked tells (asker_of client steps) old next (words_of_next result) new × Reaches (Allows tells) old new)
+      → Names (Allows tells) client.table.entries budget old result left new → Reaches (Allows tells) old new →
+      (Asked tells (asker_of client steps) old next (words_of_next result) new × Reaches (Allows tells) old new)
   asked_for_next result budget left new given asks reaches = (FindsNext result left new (subst (λ (n : ℕ). Names (Allows tells) client.table.entries n old result left new) given asks), reaches)
 
   -- and its reply made
   pub writes : (hex bytes : List ℕ) (result : Result (Unit {0}) ClientError) (budget left : ℕ) (new : MachineState) (reply : List ℕ) → decode_of hex ≡ Ok bytes → budget ≡ steps
-      → Writes (Allows tells) client bytes budget old result left new → Reaches (Allows tells) old new → IsMade reply (words_of_write bytes result) → Answers tells (asker_of client steps) old (write hex) new reply
+      → Writes (Allows tells) client bytes budget old result left new → Reaches (Allows tells) old new → IsMade reply (words_of_write bytes result) →
+      Answers tells (asker_of client steps) old (write hex) new reply
   writes hex bytes result budget left new reply decoded given asks reaches made = record {
     words = words_of_write bytes result;
     commanded = asked_to_write hex bytes result budget left new decoded given asks reaches;
@@ -63,7 +74,8 @@ module _ (tells : Type 0) (client : ClientState) (steps : ℕ) (old : MachineSta
   }
 
   pub reads : (id : ℕ) (out after : List ℕ) (result : Result ℕ ClientError) (budget left : ℕ) (new : MachineState) (reply : List ℕ) → length out ≡ READ_BUFFER → budget ≡ steps
-      → Reads (Allows tells) client id out budget old result after left new → Reaches (Allows tells) old new → IsMade reply (words_of_read after result) → Answers tells (asker_of client steps) old (read id) new reply
+      → Reads (Allows tells) client id out budget old result after left new → Reaches (Allows tells) old new → IsMade reply (words_of_read after result) →
+      Answers tells (asker_of client steps) old (read id) new reply
   reads id out after result budget left new reply size given asks reaches made = record {
     words = words_of_read after result;
     commanded = asked_to_read id out after result budget left new size given asks reaches;
@@ -80,7 +92,8 @@ module _ (tells : Type 0) (client : ClientState) (steps : ℕ) (old : MachineSta
   }
 
   pub counts : (result : Result ℕ ClientError) (budget left : ℕ) (new : MachineState) (reply : List ℕ) → budget ≡ steps
-      → Counts (Allows tells) client.table.entries budget old result left new → Reaches (Allows tells) old new → IsMade reply (words_of_count result) → Answers tells (asker_of client steps) old count new reply
+      → Counts (Allows tells) client.table.entries budget old result left new → Reaches (Allows tells) old new → IsMade reply (words_of_count result) →
+      Answers tells (asker_of client steps) old count new reply
   counts result budget left new reply given asks reaches made = record {
     words = words_of_count result;
     commanded = asked_to_count result budget left new given asks reaches;
@@ -88,7 +101,8 @@ module _ (tells : Type 0) (client : ClientState) (steps : ℕ) (old : MachineSta
   }
 
   pub names : (result : Result (Option ℕ) ClientError) (budget left : ℕ) (new : MachineState) (reply : List ℕ) → budget ≡ steps
-      → Names (Allows tells) client.table.entries budget old result left new → Reaches (Allows tells) old new → IsMade reply (words_of_next result) → Answers tells (asker_of client steps) old next new reply
+      → Names (Allows tells) client.table.entries budget old result left new → Reaches (Allows tells) old new → IsMade reply (words_of_next result) →
+      Answers tells (asker_of client steps) old next new reply
   names result budget left new reply given asks reaches made = record {
     words = words_of_next result;
     commanded = asked_for_next result budget left new given asks reaches;
@@ -105,12 +119,14 @@ module _ (tells : Type 0) (client : ClientState) (steps : ℕ) (old : MachineSta
   }
 
   pub runs : (code value : ℕ) (program : Listed) (answer : Result ℕ RunStop) (budget left : ℕ) (new : MachineState) (reply : List ℕ) → budget ≡ steps → program ≡ program_of code client.table.entries
-      → Run (Allows tells) program value budget old answer left new → Reaches (Allows tells) old new → IsMade reply (words_of_action answer) → Answers tells (asker_of client steps) old (action code value) new reply
+      → Run (Allows tells) program value budget old answer left new → Reaches (Allows tells) old new → IsMade reply (words_of_action answer) →
+      Answers tells (asker_of client steps) old (action code value) new reply
   runs code value program answer budget left new reply given found asks reaches made = record {
     words = words_of_action answer;
     commanded = (
       RunsAction code value answer left new
-          (subst (λ (n : ℕ). Run (Allows tells) (program_of code client.table.entries) value n old answer left new) given (subst (λ (p : Listed). Run (Allows tells) p value budget old answer left new) found asks)),
+          (subst (λ (n : ℕ). Run (Allows tells) (program_of code client.table.entries) value n old answer left new) given
+          (subst (λ (p : Listed). Run (Allows tells) p value budget old answer left new) found asks)),
       reaches,
     );
     made = made;

@@ -37,7 +37,8 @@ use Rattle.apei_script.specs.Players.{PlayerState, client_of, budget_of}
 use Rattle.apei_script.specs.Words.{Reply, at_step, said_at, words_of_block, text_of_replies, reply_at}
 use Rattle.script_text.specs.Turns.{side_of}
 use Rattle.apei_script.specs.Bridged.{words_of_turn, words_of_steps, words_of_made, HasTaken, block_of, replies_of, ByBridge, Enters, StaysAs, BridgesTurns, TurnsShown}
-use Rattle.apei_script.specs.Plays.{Plays, Blank, ByClient, GivenTable, OwnTable, GivenShadow, OnMachine, ByTheBridge, OnlyTells, Reset, Power, Told, changes_in, LinePlayed, PlaysLine, PlaysUnwritten, LeftIn, AtLast, InBridged, stage_in, played_as}
+use Rattle.apei_script.specs.Plays.{Plays, Blank, ByClient, GivenTable, OwnTable, GivenShadow, OnMachine, ByTheBridge, OnlyTells, Reset, Power, Told}
+use Rattle.apei_script.specs.Plays.{changes_in, LinePlayed, PlaysLine, PlaysUnwritten, LeftIn, AtLast, InBridged, stage_in, played_as}
 use Rattle.apei_script.specs.Mapped.{after_line}
 use Rattle.apei_script.specs.declared.session.Session.{Session}
 use Rattle.apei_script.specs.Sessions.{state_of, SameClients}
@@ -61,7 +62,8 @@ module _ (tells : Type 0) (programs : OwnProgramsRun tells) (told : tells) (clie
     ends = turns_end tells client budget told state old steps next last are;
   }
 
-pub line_turned : (tells : Type 0) → OwnProgramsRun tells → tells → (counts : List ℕ) (old : PlayerState) (line : Line) (said : List Reply) (blocks : List (List ℕ)) (steps : List Step) (new : PlayerState)
+pub line_turned : (tells : Type 0) → OwnProgramsRun tells → tells → (counts : List ℕ) (old : PlayerState) (line : Line) (said : List Reply)
+    (blocks : List (List ℕ)) (steps : List Step) (new : PlayerState)
     → Plays tells counts old (played_as line said blocks steps new) → IsMachine old.machine → old.own ≡ own_client old.machine → TurnsShown (budget_of old) old.bridge old.machine steps new.machine
 line_turned tells programs told counts old line said blocks steps new plays machine own =
     elim plays as (λ one plays. TurnsShown (budget_of old) old.bridge old.machine one.steps one.left.machine) [
@@ -161,10 +163,12 @@ again_told (OfBridge event) = refl
 words_made : (steps : List Step) → words_of_made (made_by steps) ≡ words_of_steps steps
 words_made steps = ap (λ (xs : List ℕ). codes "turns" ++ xs) (each steps)
   where
-    each : (steps : List Step) → flat_map (λ (one : MadeTurn). codes " " ++ words_of_turn (turn_of one.turn) one.step) (made_by steps) ≡ flat_map (λ (step : Step). codes " " ++ words_of_turn step.turn (changes_in step.machine)) steps
+    each : (steps : List Step) → flat_map (λ (one : MadeTurn). codes " " ++ words_of_turn (turn_of one.turn) one.step) (made_by steps)
+        ≡ flat_map (λ (step : Step). codes " " ++ words_of_turn step.turn (changes_in step.machine)) steps
     each [] = refl
     each (step ∷ steps) =
-        ap (λ (turn : Turn). (codes " " ++ words_of_turn turn (changes_in step.machine)) ++ flat_map (λ (one : MadeTurn). codes " " ++ words_of_turn (turn_of one.turn) one.step) (made_by steps)) (again_told step.turn)
+        ap (λ (turn : Turn). (codes " " ++ words_of_turn turn (changes_in step.machine)) ++ flat_map
+        (λ (one : MadeTurn). codes " " ++ words_of_turn (turn_of one.turn) one.step) (made_by steps)) (again_told step.turn)
         ∙ ap (λ (xs : List ℕ). (codes " " ++ words_of_turn step.turn (changes_in step.machine)) ++ xs) (each steps)
 
 -- the words of turns behind others
@@ -190,7 +194,8 @@ shown_block turn machine = said_at (changes_in machine) (map words_of_block (blo
 
 blocks_more : (steps : List Step) (step : Step) → blocks_in (steps ++ step ∷ []) ≡ blocks_in steps ++ block_of step.turn (last_of step.machine)
 blocks_more steps step =
-    flat_map-append (λ (step : Step). block_of step.turn (last_of step.machine)) steps (step ∷ []) ∙ ap (λ (xs : List (List ℕ)). blocks_in steps ++ xs) (append-nil (block_of step.turn (last_of step.machine)))
+    flat_map-append (λ (step : Step). block_of step.turn (last_of step.machine)) steps (step ∷ []) ∙ ap (λ (xs : List (List ℕ)). blocks_in steps ++ xs)
+    (append-nil (block_of step.turn (last_of step.machine)))
 
 shown_more : (steps : List Step) (step : Step) → block_replies (steps ++ step ∷ []) ≡ block_replies steps ++ shown_block step.turn step.machine
 shown_more steps step =
@@ -222,7 +227,8 @@ module _ {L : Type 0} (hearing : L → Hearing) (tells told_sink : Type 0) (clie
   no_step = record { steps = []; are = (refl, refl); sides = refl; counted = λ t. tt; made_is = refl; told = told_none hearing members; text = λ t. sym (append-nil written) }
 
   -- one turn more, with whatever was told and shown of it
-  step_more : (mid now : BridgeState) (before new : MachineState) (members_mid members_now : List L) (letters : List ℕ) (letter : ℕ) (made made_now : List MadeTurn) (written_mid written_now : List ℕ) (turn : SideTurn) (step : ℕ)
+  step_more : (mid now : BridgeState) (before new : MachineState) (members_mid members_now : List L) (letters : List ℕ) (letter : ℕ)
+      (made made_now : List MadeTurn) (written_mid written_now : List ℕ) (turn : SideTurn) (step : ℕ)
       → BridgedSoFar mid before members_mid letters made written_mid
       → IsTurn tells client budget mid before (turn_of turn) now new → side_in (turn_of turn) ≡ side_of letter
       → (tells → changes_of new ≡ step) → step ≡ changes_in new → made_now ≡ made ++ (record { turn = turn; step = step }) ∷ []
@@ -249,7 +255,8 @@ module _ {L : Type 0} (hearing : L → Hearing) (tells told_sink : Type 0) (clie
       }
 
   -- the turn of the next letter, which took no block
-  pub bridged_quiet : (mid now : BridgeState) (before new : MachineState) (members_now : List L) (all : List ℕ) (k : ℕ) (made made_now : List MadeTurn) (written_now : List ℕ) (turn : SideTurn) (step : ℕ) → k < length all
+  pub bridged_quiet : (mid now : BridgeState) (before new : MachineState) (members_now : List L) (all : List ℕ) (k : ℕ) (made made_now : List MadeTurn)
+      (written_now : List ℕ) (turn : SideTurn) (step : ℕ) → k < length all
       → BridgedSoFar mid before members_now (take k all) made written_now
       → IsTurn tells client budget mid before (turn_of turn) now new → side_in (turn_of turn) ≡ side_of (get_or all k 0)
       → (tells → changes_of new ≡ step) → step ≡ changes_in new → made_now ≡ made ++ (record { turn = turn; step = step }) ∷ []
@@ -263,7 +270,8 @@ module _ {L : Type 0} (hearing : L → Hearing) (tells told_sink : Type 0) (clie
       (λ t. sym (ap (λ (bs : List (List ℕ)). written_now ++ text_of_replies (said_at (changes_in new) (map words_of_block bs))) none ∙ append-nil written_now)))
 
   -- the turn of the next letter, which took one
-  pub bridged_took : (mid now : BridgeState) (before new : MachineState) (members_mid members_now : List L) (all : List ℕ) (k : ℕ) (made made_now : List MadeTurn) (written_mid written_now : List ℕ) (turn : SideTurn) (step : ℕ) → k < length all
+  pub bridged_took : (mid now : BridgeState) (before new : MachineState) (members_mid members_now : List L) (all : List ℕ) (k : ℕ)
+      (made made_now : List MadeTurn) (written_mid written_now : List ℕ) (turn : SideTurn) (step : ℕ) → k < length all
       → BridgedSoFar mid before members_mid (take k all) made written_mid
       → IsTurn tells client budget mid before (turn_of turn) now new → side_in (turn_of turn) ≡ side_of (get_or all k 0)
       → (tells → changes_of new ≡ step) → step ≡ changes_in new → made_now ≡ made ++ (record { turn = turn; step = step }) ∷ []
@@ -274,7 +282,8 @@ module _ {L : Type 0} (hearing : L → Hearing) (tells told_sink : Type 0) (clie
       let one : block_of (turn_of turn) (last_of new) ≡ new.handover.last ∷ [] = ap (λ (t : Turn). block_of t (last_of new)) (taken_is (turn_of turn) taken) in
       subst (λ (xs : List ℕ). BridgedSoFar now new members_now xs made_now written_now) (sym (take_more all k 0 more))
       (step_more mid now before new members_mid members_now (take k all) (get_or all k 0) made made_now written_mid written_now turn step so is side counted at pushed
-      (λ blocks told. subst (λ (bs : List (List ℕ)). Told hearing (blocks ++ bs) members members_now) (sym one) (told_then hearing blocks (new.handover.last ∷ []) members members_mid members_now told telling))
+      (λ blocks told. subst (λ (bs : List (List ℕ)). Told hearing (blocks ++ bs) members members_now) (sym one)
+      (told_then hearing blocks (new.handover.last ∷ []) members members_mid members_now told telling))
       (λ t. text t ∙ ap (λ (xs : List ℕ). written_mid ++ xs) (sym (append-nil (reply_at (changes_in new) (words_of_block new.handover.last))))
       ∙ ap (λ (bs : List (List ℕ)). written_mid ++ text_of_replies (said_at (changes_in new) (map words_of_block bs))) (sym one)))
 
@@ -294,7 +303,8 @@ cut_in_turns letters k changes steps step took =
 
 -- A player's turns
 
-module _ {L : Type 0} (hearing : L → Hearing) (tells told_sink : Type 0) (programs : OwnProgramsRun tells) (old : PlayerState) (machine : IsMachine old.machine) (on : old.bridge ≡ Off → ⊥) (members : List L) (written : List ℕ)
+module _ {L : Type 0} (hearing : L → Hearing) (tells told_sink : Type 0) (programs : OwnProgramsRun tells) (old : PlayerState) (machine : IsMachine old.machine)
+    (on : old.bridge ≡ Off → ⊥) (members : List L) (written : List ℕ)
     (now : BridgeState) (final : MachineState) where
   -- the player behind them
   abbrev new : PlayerState
@@ -310,7 +320,8 @@ module _ {L : Type 0} (hearing : L → Hearing) (tells told_sink : Type 0) (prog
       (λ told own. turns_shown tells programs told old.own (budget_of old) old.bridge old.machine steps new.bridge new.machine own machine are)
 
   -- the reply behind all turns
-  line_text : (members_now : List L) (letters : List ℕ) (made : List MadeTurn) (written_now : List ℕ) → (so : SoFar new.bridge new.machine members_now letters made written_now) → (step : ℕ) → step ≡ changes_in new.machine
+  line_text : (members_now : List L) (letters : List ℕ) (made : List MadeTurn) (written_now : List ℕ) →
+      (so : SoFar new.bridge new.machine members_now letters made written_now) → (step : ℕ) → step ≡ changes_in new.machine
       → reply_at step (words_of_made made) ≡ text_of_reply (at_step (changes_in new.machine) (words_of_steps so.steps))
   line_text members_now letters made written_now so step at =
       ap (λ (n : ℕ). reply_at n (words_of_made made)) at ∙ ap (λ (m : List MadeTurn). reply_at (changes_in new.machine) (words_of_made m)) so.made_is
@@ -353,7 +364,8 @@ module _ {L : Type 0} (hearing : L → Hearing) (tells told_sink : Type 0) (prog
   }
 
   -- where the sink refused the line of the block that the last of some turns took
-  pub turns_cut : (mid : BridgeState) (before : MachineState) (members_mid members_now : List L) (all : List ℕ) (k : ℕ) (made : List MadeTurn) (written_mid written_now : List ℕ) (turn : SideTurn) (step : ℕ) → k < length all
+  pub turns_cut : (mid : BridgeState) (before : MachineState) (members_mid members_now : List L) (all : List ℕ) (k : ℕ) (made : List MadeTurn)
+      (written_mid written_now : List ℕ) (turn : SideTurn) (step : ℕ) → k < length all
       → SoFar mid before members_mid (take k all) made written_mid
       → IsTurn tells old.own (budget_of old) mid before (turn_of turn) new.bridge new.machine → side_in (turn_of turn) ≡ side_of (get_or all k 0)
       → (tells → changes_of new.machine ≡ step) → step ≡ changes_in new.machine → HasTaken (turn_of turn)
@@ -417,7 +429,8 @@ shows_at_first tells told counts old line said blocks steps now plays s shown be
 
 -- As the code has them
 
-pub same_turn : (tells : Type 0) (client own : ClientState) (budget steps : ℕ) (state : BridgeState) (old : MachineState) (turn : Turn) (next : BridgeState) (new : MachineState) → client ≡ own → budget ≡ steps
+pub same_turn : (tells : Type 0) (client own : ClientState) (budget steps : ℕ) (state : BridgeState) (old : MachineState) (turn : Turn) (next : BridgeState)
+    (new : MachineState) → client ≡ own → budget ≡ steps
     → IsTurn tells client budget state old turn next new → IsTurn tells own steps state old turn next new
 same_turn tells client own budget steps state old turn next new same many is =
     subst (λ (n : ℕ). IsTurn tells own n state old turn next new) many (subst (λ (c : ClientState). IsTurn tells c budget state old turn next new) same is)
@@ -431,17 +444,22 @@ so_at hearing tells told_sink client budget state old members written now then n
     (subst (λ (m : MachineState). BridgedSoFar hearing tells told_sink client budget state old members written now m members_now letters made_then written_now) (sym machine)
     (subst (λ (xs : List MadeTurn). BridgedSoFar hearing tells told_sink client budget state old members written now new members_now letters xs written_now) (sym items) so))
 
-module _ {F L : Type 0} (hearing : L → Hearing) (tells told_sink : Type 0) (old new : Session F) (now : BridgeState) (final : MachineState) (clients : SameClients old new) (bridge : new.bridge ≡ now) (machine : new.machine ≡ final) where
+module _ {F L : Type 0} (hearing : L → Hearing) (tells told_sink : Type 0) (old new : Session F) (now : BridgeState) (final : MachineState)
+    (clients : SameClients old new) (bridge : new.bridge ≡ now) (machine : new.machine ≡ final) where
   behind_all : state_of new ≡ record (state_of old) { machine = final; bridge = now }
   behind_all = other_bridge old new clients ∙ ap (λ (b : BridgeState). record (state_of old) { machine = new.machine; bridge = b }) bridge
       ∙ ap (λ (m : MachineState). record (state_of old) { machine = m; bridge = now }) machine
 
-  pub played_by : (members members_now : List L) (line : Line) (written written_now : List ℕ) → PlaysLine hearing tells (stream_of told_sink written written_now) (stage_in (state_of old) members) line (stage_in (record (state_of old) { machine = final; bridge = now }) members_now)
+  pub played_by : (members members_now : List L) (line : Line) (written written_now : List ℕ) →
+      PlaysLine hearing tells (stream_of told_sink written written_now) (stage_in (state_of old) members) line
+      (stage_in (record (state_of old) { machine = final; bridge = now }) members_now)
       → PlaysLine hearing tells (stream_of told_sink written written_now) (stage_in (state_of old) members) line (stage_in (state_of new) members_now)
   played_by members members_now line written written_now plays =
       subst (λ (p : PlayerState). PlaysLine hearing tells (stream_of told_sink written written_now) (stage_in (state_of old) members) line (stage_in p members_now)) (sym behind_all) plays
 
-  pub unwritten_by : (members members_now : List L) (line : Line) (written written_now : List ℕ) → PlaysUnwritten hearing tells (stream_of told_sink written written_now) (stage_in (state_of old) members) line (stage_in (record (state_of old) { machine = final; bridge = now }) members_now)
+  pub unwritten_by : (members members_now : List L) (line : Line) (written written_now : List ℕ) →
+      PlaysUnwritten hearing tells (stream_of told_sink written written_now) (stage_in (state_of old) members) line
+      (stage_in (record (state_of old) { machine = final; bridge = now }) members_now)
       → PlaysUnwritten hearing tells (stream_of told_sink written written_now) (stage_in (state_of old) members) line (stage_in (state_of new) members_now)
   unwritten_by members members_now line written written_now plays =
       subst (λ (p : PlayerState). PlaysUnwritten hearing tells (stream_of told_sink written written_now) (stage_in (state_of old) members) line (stage_in p members_now)) (sym behind_all) plays

@@ -33,11 +33,14 @@ module _ (tells : Type 0) (old : MachineState) (own : ClientState) (steps : Opti
   played_by_other client other new_other line words new was is valid commanded =
       subst (λ (o : Option ClientState). CommandPlayed tells (player old own o steps state) line (player new own new_other steps state) words) (sym was)
       (subst (λ (o : Option ClientState). CommandPlayed tells (player old own (Some client) steps state) line (player new own o steps state) words) (sym is)
-      (λ counts. line_played tells (own_programs tells) counts (player old own (Some client) steps state) line (said_at (changes_in new) (words ∷ [])) [] [] (player new own (Some client) steps state) machine valid
-      (ByClient line words new (subst (λ (o : Option ClientState). (Asked tells (asker_of client (unwrap_or steps (enough_steps (in_use own o).timings))) old line words new × Reaches (Allows tells) old new)) was commanded))))
+      (λ counts. line_played tells (own_programs tells) counts (player old own (Some client) steps state) line (said_at (changes_in new) (words ∷ [])) [] []
+      (player new own (Some client) steps state) machine valid
+      (ByClient line words new (subst (λ (o : Option ClientState). (Asked tells (asker_of client (unwrap_or steps (enough_steps (in_use own o).timings))) old
+      line words new × Reaches (Allows tells) old new)) was commanded))))
 
   -- by the client that was attached first
-  pub played_by_own : (new_own : ClientState) (other new_other : Option ClientState) (line : Line) (words : List ℕ) (new : MachineState) → other ≡ None → new_other ≡ None → new_own ≡ own → IsValid line
+  pub played_by_own : (new_own : ClientState) (other new_other : Option ClientState) (line : Line) (words : List ℕ) (new : MachineState) → other ≡ None →
+      new_other ≡ None → new_own ≡ own → IsValid line
       → (Asked tells (asker_of own (unwrap_or steps (enough_steps (in_use own other).timings))) old line words new × Reaches (Allows tells) old new)
       → CommandPlayed tells (player old own other steps state) line (player new new_own new_other steps state) words
   played_by_own new_own other new_other line words new was is same valid commanded =
@@ -45,7 +48,8 @@ module _ (tells : Type 0) (old : MachineState) (own : ClientState) (steps : Opti
       (subst (λ (o : Option ClientState). CommandPlayed tells (player old own None steps state) line (player new new_own o steps state) words) (sym is)
       (subst (λ (client : ClientState). CommandPlayed tells (player old own None steps state) line (player new client None steps state) words) (sym same)
       (λ counts. line_played tells (own_programs tells) counts (player old own None steps state) line (said_at (changes_in new) (words ∷ [])) [] [] (player new own None steps state) machine valid
-      (ByClient line words new (subst (λ (o : Option ClientState). (Asked tells (asker_of own (unwrap_or steps (enough_steps (in_use own o).timings))) old line words new × Reaches (Allows tells) old new)) was commanded)))))
+      (ByClient line words new (subst (λ (o : Option ClientState). (Asked tells (asker_of own (unwrap_or steps (enough_steps (in_use own o).timings))) old line
+      words new × Reaches (Allows tells) old new)) was commanded)))))
 
   -- a read by the client in use
   pub read_played : (new_own : ClientState) (other new_other : Option ClientState) (id : ℕ) (result : Result ℕ ClientError) (new : MachineState) → new_other ≡ other → new_own ≡ own → IsValid (read id)
@@ -60,7 +64,8 @@ module _ (tells : Type 0) (old : MachineState) (own : ClientState) (steps : Opti
         played =
             subst (λ (o : Option ClientState). CommandPlayed tells (player old own other steps state) (read id) (player new new_own o steps state) words) (sym is)
             (subst (λ (client : ClientState). CommandPlayed tells (player old own other steps state) (read id) (player new client other steps state) words) (sym same)
-            (λ counts. line_played tells (own_programs tells) counts (player old own other steps state) (read id) (said_at (changes_in new) (words ∷ [])) [] [] (player new own other steps state) machine valid
+            (λ counts. line_played tells (own_programs tells) counts (player old own other steps state) (read id) (said_at (changes_in new) (words ∷ [])) [] []
+            (player new own other steps state) machine valid
             (ByClient (read id) words new commanded)));
       }
 
@@ -77,7 +82,8 @@ module _ (tells : Type 0) (old : MachineState) (client used : ClientState) (budg
       → (spare : ℕ) × Writes (Allows tells) used bytes steps old result spare new
   answers_write bytes result left new asks = (left, as_in_use (λ (c : ClientState) (n : ℕ). Writes (Allows tells) c bytes n old result left new) asks)
 
-  pub answers_clear : (id : ℕ) (result : Result (Unit {0}) ClientError) (left : ℕ) (new : MachineState) → Sequence (Allows tells) client.table.entries client.timings (clear_requests id) budget old result left new
+  pub answers_clear : (id : ℕ) (result : Result (Unit {0}) ClientError) (left : ℕ) (new : MachineState) → Sequence (Allows tells) client.table.entries
+      client.timings (clear_requests id) budget old result left new
       → (spare : ℕ) × Sequence (Allows tells) used.table.entries used.timings (clear_requests id) steps old result spare new
   answers_clear id result left new asks = (left, as_in_use (λ (c : ClientState) (n : ℕ). Sequence (Allows tells) c.table.entries c.timings (clear_requests id) n old result left new) asks)
 

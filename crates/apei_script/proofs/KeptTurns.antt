@@ -78,7 +78,8 @@ module _ (tells : Type 0) (programs : OwnProgramsRun tells) (told : tells) (clie
       )
 
   -- a bridge gives an identifier once
-  spares_turn : (state : BridgeState) (old : MachineState) (turn : Turn) (next : BridgeState) (new : MachineState) (id : ℕ) → IsTurn tells client budget state old turn next new → IsBeyond id state → SparesTurn id state turn
+  spares_turn : (state : BridgeState) (old : MachineState) (turn : Turn) (next : BridgeState) (new : MachineState) (id : ℕ) →
+      IsTurn tells client budget state old turn next new → IsBeyond id state → SparesTurn id state turn
   spares_turn state old (OfFirmware event) next new id is beyond = tt
   spares_turn state old (OfBridge event) next new id is beyond = elim is.1 as (λ state event after turn. IsBeyond id state → SparesTurn id state (OfBridge event)) [
     | TurnsReader n state event new none reads ↦ λ beyond. tt
@@ -87,7 +88,8 @@ module _ (tells : Type 0) (programs : OwnProgramsRun tells) (told : tells) (clie
     | RunsOut n block last ↦ λ beyond. tt
   ] beyond
 
-  beyond_spares : (state : BridgeState) (old : MachineState) (steps : List Step) (next : BridgeState) (last : MachineState) (id : ℕ) → AreTurns tells client budget state old steps next last → IsBeyond id state
+  beyond_spares : (state : BridgeState) (old : MachineState) (steps : List Step) (next : BridgeState) (last : MachineState) (id : ℕ) →
+      AreTurns tells client budget state old steps next last → IsBeyond id state
       → SpareTurns id state old steps
   beyond_spares state old [] next last id are beyond = tt
   beyond_spares state old (step ∷ rest) next last id are beyond = (
@@ -109,7 +111,8 @@ module _ (tells : Type 0) (programs : OwnProgramsRun tells) (told : tells) (clie
   behind_one spared s shown state old step rest last behind (inl shows) = inl (on_behind (nat_le (changes_of step.machine) s) _ _ (le-leb (changes_of step.machine) s behind) shows)
   behind_one spared s shown state old step rest last behind (inr keeps) = inr keeps
 
-  block_kept : (spared : ℕ → Type 0) (s : ℕ) (shown : Records) (state : BridgeState) (old : MachineState) (turn : Turn) (next : BridgeState) (mid : MachineState) (rest : List Step) (end : BridgeState) (last : MachineState)
+  block_kept : (spared : ℕ → Type 0) (s : ℕ) (shown : Records) (state : BridgeState) (old : MachineState) (turn : Turn) (next : BridgeState)
+      (mid : MachineState) (rest : List Step) (end : BridgeState) (last : MachineState)
       → client ≡ own_client old → IsMachine old → IsTurn tells client budget state old turn next mid → AreTurns tells client budget next mid rest end last
       → (changes_of mid ≤ s → ShowsOrKeeps spared s shown next mid rest last) → KeepsBlock spared s state turn mid shown
   block_kept spared s shown state old (OfFirmware event) next mid rest end last own machine is are either = tt

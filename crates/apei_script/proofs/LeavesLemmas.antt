@@ -21,11 +21,13 @@ use Rattle.erst_machine.specs.Shown.{shown_by}
 use Rattle.erst_machine.specs.Events.{Submits, Event, Accessed, Submitted, Laid, Happens}
 use Rattle.erst_commands.specs.Changes.{ChangeCommand, IsTaken, IsRefused, IsFailed, IsStopped, DummyCommand, IsPlayed, IsCut}
 use Rattle.erst_commands.specs.Looks.{AsksOnce, Answers, StopsBehind, StopsAtOnce, CountMade, IsCounted, IsNotCounted, NextMade, IsFound, IsAtEnd, IsNotFound}
-use Rattle.erst_commands.specs.Reads.{ReadMade, IsRead as read_made, IsRefused as read_refused, IsFailed as read_failed, ReadCommand, Answers as read_answers, StopsBehind as read_behind, StopsBefore as read_before, ReadAnswered, IsNotRead, IsNotCopied, IsCopied}
+use Rattle.erst_commands.specs.Reads.{ReadMade, IsRead as read_made, IsRefused as read_refused, IsFailed as read_failed, ReadCommand, Answers as read_answers}
+use Rattle.erst_commands.specs.Reads.{StopsBehind as read_behind, StopsBefore as read_before, ReadAnswered, IsNotRead, IsNotCopied, IsCopied}
 use Rattle.erst_commands.specs.Writes.{WriteAnswered, IsNoRecord, IsWritten, marked, id_of}
 use Rattle.erst_bridge.specs.Bridges.{BridgeState}
 use Rattle.erst_bridge.specs.Turns.{Step, AreTurns}
-use Rattle.erst_shadow.specs.ShadowCommands.{pieces_in, ShadowWriteAnswered, IsNoRecord as IsNoShadowRecord, IsWritten as IsShadowWritten, ShadowReadAnswered, IsNotRead as IsNotShadowRead, IsNotCopied as IsNotShadowCopied, IsCopied as IsShadowCopied}
+use Rattle.erst_shadow.specs.ShadowCommands.{pieces_in, ShadowWriteAnswered, IsNoRecord as IsNoShadowRecord, IsWritten as IsShadowWritten, ShadowReadAnswered}
+use Rattle.erst_shadow.specs.ShadowCommands.{IsNotRead as IsNotShadowRead, IsNotCopied as IsNotShadowCopied, IsCopied as IsShadowCopied}
 use Rattle.erst_shadow.proofs.CrashLemmas.{change_crash, read_crash, dummy_store}
 use Rattle.script_text.specs.ScriptGrammar.{Line, blank, write, read, clear, count, next, dummy, own_table, shadow_table, heard, reset, power}
 use Rattle.apei_script.specs.Words.{Reply}
@@ -73,12 +75,13 @@ LeavesOwn old line new = LineLeaves (reach_in old.device) old line new
 
 changed : (first last : MachineState) (id : ℕ) (command : Command) (requests : List Request) (budget : ℕ) (result : Result (Unit {0}) ClientError) (left : ℕ) →
     ChangeCommand first last id command requests budget result left → KeepsOrMakes first.device.store last.device.store (after first.device.store.layout command (stored first.device.store))
-changed first last id command requests budget result left made = elim made as (λ result left made. KeepsOrMakes first.device.store last.device.store (after first.device.store.layout command (stored first.device.store))) [
-  | IsTaken pauses left taken now made spent ↦ made.leaves.crash
-  | IsRefused refusal error left refused is now made spent ↦ made.leaves.crash
-  | IsFailed pauses left usable rose either leaves few spent ↦ leaves.crash
-  | IsStopped pauses leaves few short ↦ leaves.crash
-]
+changed first last id command requests budget result left made = elim made as (λ result left made. KeepsOrMakes first.device.store last.device.store
+    (after first.device.store.layout command (stored first.device.store))) [
+      | IsTaken pauses left taken now made spent ↦ made.leaves.crash
+      | IsRefused refusal error left refused is now made spent ↦ made.leaves.crash
+      | IsFailed pauses left usable rose either leaves few spent ↦ leaves.crash
+      | IsStopped pauses leaves few short ↦ leaves.crash
+    ]
 
 -- a write
 
@@ -93,7 +96,8 @@ write_leaves : (old : MachineState) (hex bytes : List ℕ) (steps : ℕ) (result
 write_leaves old hex bytes steps result left new decoded answered = elim answered as (λ result left new answered. LeavesOwn old (write hex) new) [
   | IsNoRecord error refused ↦ stays (reach_in old.device) old (write hex) old refl
   | IsWritten result left last fits made ↦
-      makes (reach_in old.device) old (write hex) (Write (id_of bytes) (marked bytes)) last (after_record (reach_in old.device) old hex bytes decoded fits) (changed _ last _ _ _ steps result left made)
+      makes (reach_in old.device) old (write hex) (Write (id_of bytes) (marked bytes)) last (after_record (reach_in old.device) old hex bytes decoded fits)
+      (changed _ last _ _ _ steps result left made)
 ]
 
 -- a read
@@ -243,7 +247,8 @@ pub line_leaves : (tells : Type 0) → tells → (range : ℕ) (counts : List �
     → Plays tells counts old (played_as line said blocks steps new) → steps ≡ [] → (names_command line ≡ true → LineLeaves range old.machine line new.machine) → IsOwnLine line
     → LineLeaves range old.machine line new.machine
 line_leaves tells told range counts old line said blocks steps new plays =
-    elim plays as (λ one plays. one.steps ≡ [] → (names_command one.line ≡ true → LineLeaves range old.machine one.line one.left.machine) → IsOwnLine one.line → LineLeaves range old.machine one.line one.left.machine) [
+    elim plays as (λ one plays. one.steps ≡ [] → (names_command one.line ≡ true → LineLeaves range old.machine one.line one.left.machine) → IsOwnLine one.line →
+    LineLeaves range old.machine one.line one.left.machine) [
       | Blank ↦ λ unmade maps own. stays range old.machine blank old.machine refl
       | ByClient line words machine commanded ↦ λ unmade maps own. maps (asks_command tells (client_of old) (budget_of old) old.machine line words machine commanded.0 own)
       | GivenTable hex bytes words machine other decoded gives ↦ λ unmade maps own. absurd own

@@ -18,7 +18,8 @@ admitted : (len range room : ℕ) → copy_refusal len range room ≡ None → I
 admitted len range room none = let is = copies len range room none in record { least = is.least; most = is.fits }
 
 -- a read answers the length of a record that the buffer has room for
-pub read_length : {W : Type 0} (allows : W → Call → W → Type 0) (client : ClientState) (id : ℕ) (out : List ℕ) (steps : ℕ) (old : W) (result : Result ℕ ClientError) (after : List ℕ) (left : ℕ) (last : W)
+pub read_length : {W : Type 0} (allows : W → Call → W → Type 0) (client : ClientState) (id : ℕ) (out : List ℕ) (steps : ℕ) (old : W)
+    (result : Result ℕ ClientError) (after : List ℕ) (left : ℕ) (last : W)
     → Reads allows client id out steps old result after left last → IfOk result (λ size. IsRecordLength size (length out))
 read_length allows client id out steps old result after left last reads =
     elim reads as (λ result after left last reads. IfOk result (λ size. IsRecordLength size (length out))) [
@@ -50,7 +51,8 @@ written_length allows client bytes steps old result left last writes =
 pub within_out : (len : ℕ) (out after : List ℕ) → length after ≡ length out → IsRecordLength len (length out) → len ≤ length after
 within_out len out after same is = let most = is.most in omega arith
 
-pub fits_out : (len : ℕ) (bytes after : List ℕ) → 65536 ≤ length bytes → length after ≡ length (take 65536 bytes) → IsRecordLength len (length (take 65536 bytes)) → IsRecordLength (length (take len after)) 65536
+pub fits_out : (len : ℕ) (bytes after : List ℕ) → 65536 ≤ length bytes → length after ≡ length (take 65536 bytes) →
+    IsRecordLength len (length (take 65536 bytes)) → IsRecordLength (length (take len after)) 65536
 fits_out len bytes after room same is =
     let whole : length (take 65536 bytes) ≡ 65536 = length-take-le 65536 bytes room in
     let least = is.least in
@@ -59,7 +61,8 @@ fits_out len bytes after room same is =
     record { least = omega arith; most = omega arith }
 
 -- a read answers no more bytes than its buffer shows
-pub read_within : {W : Type 0} (allows : W → Call → W → Type 0) (client : ClientState) (id : ℕ) (out : List ℕ) (steps : ℕ) (old : W) (result : Result ℕ ClientError) (after : List ℕ) (left : ℕ) (last : W)
+pub read_within : {W : Type 0} (allows : W → Call → W → Type 0) (client : ClientState) (id : ℕ) (out : List ℕ) (steps : ℕ) (old : W)
+    (result : Result ℕ ClientError) (after : List ℕ) (left : ℕ) (last : W)
     → Reads allows client id out steps old result after left last → length after ≡ length out → IfOk result (λ size. size ≤ length after)
 read_within allows client id out steps old result after left last reads same = of result (read_length allows client id out steps old result after left last reads)
   where

@@ -17,7 +17,8 @@ use Rattle.apei_script.specs.Tables.{GivesTable, IsNoTable, IsNotAttached, IsAtt
 use Rattle.apei_script.specs.Happened.{Turned, NoTurn, OneMore, Happened, Once, Turn, IsListed}
 use Rattle.script_text.specs.Turns.{side_of}
 use Rattle.apei_script.specs.Bridged.{ByBridge, Enters, StaysAs, BridgesTurns}
-use Rattle.apei_script.specs.Plays.{Plays, Blank, ByClient, GivenTable, OwnTable, GivenShadow, OnMachine, ByTheBridge, OnlyTells, Reset, Power, FailsRestart, ResetFails, PowerFails, HasHappened, played_as}
+use Rattle.apei_script.specs.Plays.{Plays, Blank, ByClient, GivenTable, OwnTable, GivenShadow, OnMachine, ByTheBridge, OnlyTells, Reset, Power, FailsRestart}
+use Rattle.apei_script.specs.Plays.{ResetFails, PowerFails, HasHappened, played_as}
 use Rattle.apei_script.proofs.EventChanges.{along}
 
 module _ (tells : Type 0) where
@@ -51,7 +52,8 @@ module _ (tells : Type 0) where
   ]
 
   -- every line
-  pub of_line : (counts : List ℕ) (old : PlayerState) (line : Line) (said : List Reply) (blocks : List (List ℕ)) (steps : List Step) (new : PlayerState) → Plays tells counts old (played_as line said blocks steps new) → HasTrail tells old.machine new.machine
+  pub of_line : (counts : List ℕ) (old : PlayerState) (line : Line) (said : List Reply) (blocks : List (List ℕ)) (steps : List Step) (new : PlayerState) →
+      Plays tells counts old (played_as line said blocks steps new) → HasTrail tells old.machine new.machine
   of_line counts old line said blocks steps new plays = elim plays as (λ one plays. HasTrail tells old.machine one.left.machine) [
     | Blank ↦ no_moves tells old.machine
     | ByClient line words machine commanded ↦ reached_happens tells old.machine machine commanded.1
@@ -70,7 +72,8 @@ module _ (tells : Type 0) where
       let takes = along tells old new trails.0 trails.1 in
       record { trail = trails.0; happens = trails.1; shown = λ told. events_are_shown tells told old new trails.0 trails.1; never_falls = takes.never_falls; exact = takes.exact }
 
-  pub line_happened : (counts : List ℕ) (old : PlayerState) (line : Line) (said : List Reply) (blocks : List (List ℕ)) (steps : List Step) (new : PlayerState) → Plays tells counts old (played_as line said blocks steps new) →
+  pub line_happened : (counts : List ℕ) (old : PlayerState) (line : Line) (said : List Reply) (blocks : List (List ℕ)) (steps : List Step) (new : PlayerState) →
+      Plays tells counts old (played_as line said blocks steps new) →
       HasHappened tells old.machine new.machine
   line_happened counts old line said blocks steps new plays = has_happened old.machine new.machine (of_line counts old line said blocks steps new plays)
 
@@ -88,14 +91,16 @@ module _ (tells : Type 0) where
       let trails = of_line counts old line said blocks steps new plays in
       events_keep tells old.machine new.machine trails.0 trails.1 machine
 
-  pub line_divides : (counts : List ℕ) (old : PlayerState) (line : Line) (said : List Reply) (blocks : List (List ℕ)) (steps : List Step) (new : PlayerState) → Plays tells counts old (played_as line said blocks steps new) →
+  pub line_divides : (counts : List ℕ) (old : PlayerState) (line : Line) (said : List Reply) (blocks : List (List ℕ)) (steps : List Step) (new : PlayerState) →
+      Plays tells counts old (played_as line said blocks steps new) →
       new.machine.device.store.layout ≡ old.machine.device.store.layout
   line_divides counts old line said blocks steps new plays =
       let trails = of_line counts old line said blocks steps new plays in
       (along tells old.machine new.machine trails.0 trails.1).layout
 
   -- the player's own client and steps stay
-  pub line_own : (counts : List ℕ) (old : PlayerState) (line : Line) (said : List Reply) (blocks : List (List ℕ)) (steps : List Step) (new : PlayerState) → Plays tells counts old (played_as line said blocks steps new) →
+  pub line_own : (counts : List ℕ) (old : PlayerState) (line : Line) (said : List Reply) (blocks : List (List ℕ)) (steps : List Step) (new : PlayerState) →
+      Plays tells counts old (played_as line said blocks steps new) →
       (new.own ≡ old.own) × (new.steps ≡ old.steps)
   line_own counts old line said blocks steps new plays = elim plays as (λ one plays. (one.left.own ≡ old.own) × (one.left.steps ≡ old.steps)) [
     | Blank ↦ (refl, refl)

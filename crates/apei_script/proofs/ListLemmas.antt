@@ -46,9 +46,11 @@ joined-append (block ∷ before) after = ap (λ (xs : List ℕ). block ++ xs) (j
 length-joined : (before after : List (List ℕ)) → length (joined (before ++ after)) ≡ length (joined before) + length (joined after)
 length-joined before after = ap length (joined-append before after) ∙ length-append (joined before) (joined after)
 
-pub listed_within : (told_sink : Type 0) (machine : MachineState) (at count : ℕ) (written written_now : List ℕ) → IsMachine machine → ListedSoFar told_sink machine at count written written_now → at ≤ 16384
+pub listed_within : (told_sink : Type 0) (machine : MachineState) (at count : ℕ) (written written_now : List ℕ) → IsMachine machine →
+    ListedSoFar told_sink machine at count written written_now → at ≤ 16384
 listed_within told_sink machine at count written written_now is so =
-    let n : length machine.memory.region ≡ length (joined (so.before ++ so.after)) + length (zeros so.left) = ap length so.laid.region_is ∙ length-append (joined (so.before ++ so.after)) (zeros so.left) in
+    let n : length machine.memory.region ≡ length (joined (so.before ++ so.after)) + length (zeros so.left) = ap length so.laid.region_is ∙ length-append
+    (joined (so.before ++ so.after)) (zeros so.left) in
     omega (arith, n, length-joined so.before so.after, is.sizes.region, so.place)
 
 all_behind : (before after : List (List ℕ)) → All IsOneBlock (before ++ after) → All IsOneBlock after
@@ -77,24 +79,28 @@ next_of region at next (block ∷ after) each finds is =
       size = ap length here ∙ sym n;
     }
 
-pub has_next : (told_sink : Type 0) (machine : MachineState) (at count next : ℕ) (written written_now : List ℕ) (so : ListedSoFar told_sink machine at count written written_now) → next_from machine.memory.region at ≡ Ok (Some next)
+pub has_next : (told_sink : Type 0) (machine : MachineState) (at count next : ℕ) (written written_now : List ℕ)
+    (so : ListedSoFar told_sink machine at count written written_now) → next_from machine.memory.region at ≡ Ok (Some next)
     → HasNext so.after machine.memory.region at next
 has_next told_sink machine at count next written written_now so is =
     let region = machine.memory.region in
-    let finds : FindsNext region at so.after = subst (λ (k : ℕ). FindsNext region k so.after) (sym so.place) (finds_next region so.before so.after (laid_is_list region (so.before ++ so.after) so.left so.laid)) in
+    let finds : FindsNext region at so.after = subst (λ (k : ℕ). FindsNext region k so.after) (sym so.place)
+    (finds_next region so.before so.after (laid_is_list region (so.before ++ so.after) so.left so.laid)) in
     next_of region at next so.after (all_behind so.before so.after so.laid.each) finds is
 
 -- a block more was shown
 pub listed_more : (told_sink : Type 0) (machine : MachineState) (at count next : ℕ) (written written_now written_then : List ℕ) → ListedSoFar told_sink machine at count written written_now
     → next_from machine.memory.region at ≡ Ok (Some next)
-    → (told_sink → written_then ≡ written_now ++ reply_at (changes_in machine) (words_of_block (part machine.memory.region at (next - at)))) → ListedSoFar told_sink machine next (count + 1) written written_then
+    → (told_sink → written_then ≡ written_now ++ reply_at (changes_in machine) (words_of_block (part machine.memory.region at (next - at)))) →
+    ListedSoFar told_sink machine next (count + 1) written written_then
 listed_more told_sink machine at count next written written_now written_then so is text =
     let region = machine.memory.region in
     let h = has_next told_sink machine at count next written written_now so is in
     let block = part region at (next - at) in
     let step = changes_in machine in
     let blocks : so.before ++ so.after ≡ (so.before ++ block ∷ []) ++ h.rest = ap (λ (xs : List (List ℕ)). so.before ++ xs) h.after_is ∙ sym (append_assoc so.before (block ∷ []) h.rest) in
-    let size : length (joined (so.before ++ block ∷ [])) ≡ length (joined so.before) + (length block + 0) = length-joined so.before (block ∷ []) ∙ ap (λ (k : ℕ). length (joined so.before) + k) (length-append block []) in
+    let size : length (joined (so.before ++ block ∷ [])) ≡ length (joined so.before) + (length block + 0) = length-joined so.before (block ∷ [])
+    ∙ ap (λ (k : ℕ). length (joined so.before) + k) (length-append block []) in
     record {
       before = so.before ++ block ∷ [];
       after = h.rest;
@@ -153,7 +159,8 @@ all_listed : (told_sink : Type 0) (machine : MachineState) (at count : ℕ) (wri
     → ((next : ℕ) → next_from machine.memory.region at ≡ Ok (Some next) → ⊥) → so.before ++ so.after ≡ so.before
 all_listed told_sink machine at count written written_now so none =
     let region = machine.memory.region in
-    let finds : FindsNext region at so.after = subst (λ (k : ℕ). FindsNext region k so.after) (sym so.place) (finds_next region so.before so.after (laid_is_list region (so.before ++ so.after) so.left so.laid)) in
+    let finds : FindsNext region at so.after = subst (λ (k : ℕ). FindsNext region k so.after) (sym so.place)
+    (finds_next region so.before so.after (laid_is_list region (so.before ++ so.after) so.left so.laid)) in
     ap (λ (xs : List (List ℕ)). so.before ++ xs) (none_left region at so.after finds none) ∙ append-nil so.before
 
 -- all blocks were shown, and then their number
@@ -175,7 +182,8 @@ listed_all tells told_sink machine at count written written_now written_then so 
 -- and a part of that line
 pub listed_but : (tells told_sink : Type 0) (machine : MachineState) (at count : ℕ) (written written_now written_then : List ℕ) → ListedSoFar told_sink machine at count written written_now
     → ((next : ℕ) → next_from machine.memory.region at ≡ Ok (Some next) → ⊥)
-    → (told_sink → (n : ℕ) × (written_then ≡ written_now ++ take n (reply_at (changes_in machine) (codes "bert " ++ decimal count)))) → ListsUnwritten tells (stream_of told_sink written written_then) machine
+    → (told_sink → (n : ℕ) × (written_then ≡ written_now ++ take n (reply_at (changes_in machine) (codes "bert " ++ decimal count)))) →
+    ListsUnwritten tells (stream_of told_sink written written_then) machine
 listed_but tells told_sink machine at count written written_now written_then so none text =
     let all = all_listed told_sink machine at count written written_now so none in
     let step = changes_in machine in

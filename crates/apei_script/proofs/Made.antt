@@ -13,7 +13,8 @@ made_number begun reply word n short begins text longer =
     record { text = text ∙ ap (λ (front : List ℕ). front ++ decimal n) begins; room = omega (arith, len) }
 
 -- a word and some digits
-pub made_digits : (begun reply word digits : List ℕ) (n : ℕ) → length word ≤ 64 → begun ≡ word → reply ≡ begun ++ digits → length reply ≡ length begun + 2 * n → n ≤ 4096 → IsMade reply (word ++ digits)
+pub made_digits : (begun reply word digits : List ℕ) (n : ℕ) → length word ≤ 64 → begun ≡ word → reply ≡ begun ++ digits → length reply ≡ length begun + 2 * n →
+    n ≤ 4096 → IsMade reply (word ++ digits)
 made_digits begun reply word digits n short begins text longer few =
     let len = ap length begins in
     record { text = text ∙ ap (λ (front : List ℕ). front ++ digits) begins; room = omega (arith, len) }

@@ -48,7 +48,8 @@ module _ (tells : Type 0) (programs : OwnProgramsRun tells) (told : tells) (clie
 -- the image at the step at which a turn ended is the one that the turn left
 module _ (tells : Type 0) (client : ClientState) (budget : ℕ) (told : tells) where
   pub turns_end : (state : BridgeState) (old : MachineState) (steps : List Step) (next : BridgeState) (last : MachineState)
-      → AreTurns tells client budget state old steps next last → EachTurn (λ bridge before step. shown_by before (image_at (told_of last) (changes_of step.machine)) ≡ records_of step.machine) state old steps
+      → AreTurns tells client budget state old steps next last →
+      EachTurn (λ bridge before step. shown_by before (image_at (told_of last) (changes_of step.machine)) ≡ records_of step.machine) state old steps
   turns_end state old [] next last are = tt
   turns_end state old (step ∷ rest) next last (first, behind) =
       let left = step.machine in

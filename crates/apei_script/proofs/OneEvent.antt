@@ -59,7 +59,8 @@ pub same_bytes : (hex bytes others : List ℕ) → decode_of hex ≡ Ok bytes �
 same_bytes hex bytes others first second = let both : ◌≡◌ {A = Result (List ℕ) FromHexError} (Ok bytes) (Ok others) = sym first ∙ second in cc both
 
 -- of the same digits the same bytes are handed over, and the same answer has the same words
-handed_alike : {E : Type 0} (event : List ℕ → Event) (says : Result ℕ E → List ℕ) (hex block other words others : List ℕ) (result found : Result ℕ E) → (decode_of hex ≡ Ok block) × (words ≡ says result)
+handed_alike : {E : Type 0} (event : List ℕ → Event) (says : Result ℕ E → List ℕ) (hex block other words others : List ℕ) (result found : Result ℕ E) →
+    (decode_of hex ≡ Ok block) × (words ≡ says result)
     → (decode_of hex ≡ Ok other) × (others ≡ says found) → (event block ≡ event other) × (result ≡ found → words ≡ others)
 handed_alike event says hex block other words others result found asks asks_too = (ap event (same_bytes hex block other asks.0 asks_too.0), λ same. asks.1 ∙ ap says same ∙ sym asks_too.1)
 
@@ -75,7 +76,8 @@ laid_alike hex block result words asks (Laid other found) others asks_too =
     record { question = both.0; words_are = λ e. both.1 (cc e) }
 laid_alike hex block result words asks also others asks_too = absurd asks_too
 
-same_peek_words : (answer also : Result (Unit {0}) SpaceFault) (after afterwards : List ℕ) → answer ≡ also → bytes_shown answer after ≡ bytes_shown also afterwards → words_of_peek after answer ≡ words_of_peek afterwards also
+same_peek_words : (answer also : Result (Unit {0}) SpaceFault) (after afterwards : List ℕ) → answer ≡ also → bytes_shown answer after ≡ bytes_shown also
+    afterwards → words_of_peek after answer ≡ words_of_peek afterwards also
 same_peek_words (Ok done) (Ok well) after afterwards same bytes = ap (λ (bs : List ℕ). words_of_peek bs (Ok done)) bytes
 same_peek_words (Ok done) (Err why) after afterwards same bytes = absurd (cc)
 same_peek_words (Err fault) (Ok well) after afterwards same bytes = absurd (cc)

@@ -45,7 +45,8 @@ module _ (tells : Type 0) (own : OwnProgramsRun tells) (steps : ℕ) (old : Mach
       words ≡ refused (words_of_client Hardware) → Rose old.device.store.flash.faults new.device.store.flash.faults
   asked_cause line words new asked =
       elim asked as (λ line words new asked. names_command line ≡ true → words ≡ refused (words_of_client Hardware) → Rose old.device.store.flash.faults new.device.store.flash.faults) [
-        | WritesRecord hex bytes result left new decoded writes ↦ λ names says. (client_write_cause tells own bytes steps old result left new writes).hardware (failed result (of_write (codes "hardware") bytes result says))
+        | WritesRecord hex bytes result left new decoded writes ↦ λ names says. (client_write_cause tells own bytes steps old result left new writes).hardware
+            (failed result (of_write (codes "hardware") bytes result says))
         | ReadsRecord id out after result left new long reads ↦ λ names says.
             (client_read_cause tells own id out steps old result after left new reads).hardware (failed result (of_read (codes "hardware") after result says))
         | ClearsRecord id result left new sequence ↦ λ names says.

@@ -15,7 +15,8 @@ use Rattle.apei_script.specs.Players.{PlayerState, budget_of, client_of}
 use Rattle.apei_script.specs.Words.{Reply, at_step, said_at, words_of_heard, reply_at, text_of_replies}
 use Rattle.apei_script.specs.Bridged.{TurnsShown, changes_in}
 use Rattle.apei_script.proofs.OneEvent.{NeedsNoBridge}
-use Rattle.apei_script.specs.Plays.{Plays, Blank, OnMachine, OnlyTells, LinePlayed, PlaysLine, PlaysUnwritten, Occurred, OccurredUnwritten, LeftIn, AtLast, InList, InTurns, InBridged, names_command, stage_in, played_as, one_reply}
+use Rattle.apei_script.specs.Plays.{Plays, Blank, OnMachine, OnlyTells, LinePlayed, PlaysLine, PlaysUnwritten, Occurred, OccurredUnwritten, LeftIn, AtLast}
+use Rattle.apei_script.specs.Plays.{InList, InTurns, InBridged, names_command, stage_in, played_as, one_reply}
 use Rattle.apei_script.specs.Sessions.{state_of, SameClients, Lists, ListsUnwritten, LineAnswered, MakesReply}
 use Rattle.apei_script.proofs.LineLemmas.{line_happened}
 use Rattle.apei_script.proofs.LeavesLemmas.{line_leaves}
@@ -26,7 +27,8 @@ abbrev pub with_machine : MachineState → PlayerState → PlayerState
 with_machine machine state = record state { machine = machine }
 
 -- a line that is no command on records
-pub quiet_with : (tells : Type 0) (counts : List ℕ) (old : PlayerState) (line : Line) (said : List Reply) (blocks : List (List ℕ)) (steps : List Step) (new : PlayerState) → names_command line ≡ false → Plays tells counts old (played_as line said blocks steps new)
+pub quiet_with : (tells : Type 0) (counts : List ℕ) (old : PlayerState) (line : Line) (said : List Reply) (blocks : List (List ℕ)) (steps : List Step)
+    (new : PlayerState) → names_command line ≡ false → Plays tells counts old (played_as line said blocks steps new)
     → (tells → old.own ≡ own_client old.machine → TurnsShown (budget_of old) old.bridge old.machine steps new.machine) → LinePlayed tells counts old (played_as line said blocks steps new)
 quiet_with tells counts old line said blocks steps new none plays turned = record {
   plays = plays;
@@ -43,12 +45,15 @@ quiet_with tells counts old line said blocks steps new none plays turned = recor
 pub shows_none : {budget : ℕ} (state : BridgeState) (old new : MachineState) → TurnsShown budget state old [] new
 shows_none state old new = record { each = λ some. absurd (some refl); first = λ some. absurd (some refl); stored = λ s image from crash. tt; mapped = tt; ends = tt }
 
-quiet : (tells : Type 0) (counts : List ℕ) (old : PlayerState) (line : Line) (said : List Reply) (blocks : List (List ℕ)) (new : PlayerState) → names_command line ≡ false → Plays tells counts old (played_as line said blocks [] new)
+quiet : (tells : Type 0) (counts : List ℕ) (old : PlayerState) (line : Line) (said : List Reply) (blocks : List (List ℕ)) (new : PlayerState) →
+    names_command line ≡ false → Plays tells counts old (played_as line said blocks [] new)
     → LinePlayed tells counts old (played_as line said blocks [] new)
 quiet tells counts old line said blocks new none plays = quiet_with tells counts old line said blocks [] new none plays (λ told own. shows_none old.bridge old.machine new.machine)
 
-same_state : (machine : MachineState) (own own_now : ClientState) (other other_now : Option ClientState) (steps steps_now : Option ℕ) (state : BridgeState) → own_now ≡ own → other_now ≡ other → steps_now ≡ steps
-    → ◌≡◌ {A = PlayerState} (record { machine = machine; own = own_now; other = other_now; steps = steps_now; bridge = state }) (record { machine = machine; own = own; other = other; steps = steps; bridge = state })
+same_state : (machine : MachineState) (own own_now : ClientState) (other other_now : Option ClientState) (steps steps_now : Option ℕ) (state : BridgeState) →
+    own_now ≡ own → other_now ≡ other → steps_now ≡ steps
+    → ◌≡◌ {A = PlayerState} (record { machine = machine; own = own_now; other = other_now; steps = steps_now; bridge = state })
+    (record { machine = machine; own = own; other = other; steps = steps; bridge = state })
 same_state machine own own_now other other_now steps steps_now state a b c =
     ap (λ (x : ClientState). let s : PlayerState = record { machine = machine; own = x; other = other_now; steps = steps_now; bridge = state } in s) a
     ∙ ap (λ (x : Option ClientState). let s : PlayerState = record { machine = machine; own = own; other = x; steps = steps_now; bridge = state } in s) b
@@ -103,7 +108,8 @@ module _ {L : Type 0} (hearing : L → Hearing) (tells told_sink : Type 0) where
     text = λ t. sym (append-nil written);
   }
 
-  pub occurred_played : (old new : PlayerState) (members members_now : List L) (line : Line) (written written_now : List ℕ) → names_command line ≡ false → NeedsNoBridge old.bridge line → new ≡ with_machine new.machine old
+  pub occurred_played : (old new : PlayerState) (members members_now : List L) (line : Line) (written written_now : List ℕ) → names_command line ≡ false →
+      NeedsNoBridge old.bridge line → new ≡ with_machine new.machine old
       → Occurred hearing tells (stream_of told_sink written written_now) (stage_in old.machine members) line (stage_in new.machine members_now)
       → PlaysLine hearing tells (stream_of told_sink written written_now) (stage_in old members) line (stage_in new members_now)
   occurred_played old new members members_now line written written_now none alone same h = record {
@@ -111,12 +117,14 @@ module _ {L : Type 0} (hearing : L → Hearing) (tells told_sink : Type 0) where
     blocks = h.blocks;
     steps = [];
     played = quiet tells (counts_of hearing members) old line (said_at (changes_in new.machine) h.words) h.blocks new none
-        (subst (λ (s : PlayerState). Plays tells (counts_of hearing members) old (played_as line (said_at (changes_in new.machine) h.words) h.blocks [] s)) (sym same) (OnMachine line h.words h.blocks new.machine alone h.happened));
+        (subst (λ (s : PlayerState). Plays tells (counts_of hearing members) old (played_as line (said_at (changes_in new.machine) h.words) h.blocks [] s))
+        (sym same) (OnMachine line h.words h.blocks new.machine alone h.happened));
     told = h.told;
     text = h.text;
   }
 
-  pub occurred_unwritten : (old new : PlayerState) (members members_now : List L) (line : Line) (written written_now : List ℕ) → names_command line ≡ false → NeedsNoBridge old.bridge line → new ≡ with_machine new.machine old
+  pub occurred_unwritten : (old new : PlayerState) (members members_now : List L) (line : Line) (written written_now : List ℕ) → names_command line ≡ false →
+      NeedsNoBridge old.bridge line → new ≡ with_machine new.machine old
       → OccurredUnwritten hearing tells (stream_of told_sink written written_now) (stage_in old.machine members) line (stage_in new.machine members_now)
       → PlaysUnwritten hearing tells (stream_of told_sink written written_now) (stage_in old members) line (stage_in new members_now)
   occurred_unwritten old new members members_now line written written_now none alone same h = record {
@@ -127,7 +135,8 @@ module _ {L : Type 0} (hearing : L → Hearing) (tells told_sink : Type 0) where
     left = h.left;
     blocks = h.blocks;
     steps = [];
-    played = quiet tells (counts_of hearing members) old h.made (said_at (changes_in new.machine) h.words) h.blocks new (left_quiet line h.made (said_at (changes_in new.machine) h.words) h.before h.last h.left none)
+    played = quiet tells (counts_of hearing members) old h.made (said_at (changes_in new.machine) h.words) h.blocks new
+        (left_quiet line h.made (said_at (changes_in new.machine) h.words) h.before h.last h.left none)
         (subst (λ (s : PlayerState). Plays tells (counts_of hearing members) old (played_as h.made (said_at (changes_in new.machine) h.words) h.blocks [] s)) (sym same)
         (OnMachine h.made h.words h.blocks new.machine (left_alone old.bridge line h.made (said_at (changes_in new.machine) h.words) h.before h.last h.left alone) h.happened));
     told = h.told;

@@ -53,7 +53,8 @@ module _ (tells : Type 0) where
     | BridgesTurns letters steps next machine on are sides counted ↦ λ names. no_command names
   ]
 
-  asks : (counts : List ℕ) (old : PlayerState) (line : Line) (said : List Reply) (blocks : List (List ℕ)) (steps : List Step) (new : PlayerState) → Plays tells counts old (played_as line said blocks steps new) → names_command line ≡ true →
+  asks : (counts : List ℕ) (old : PlayerState) (line : Line) (said : List Reply) (blocks : List (List ℕ)) (steps : List Step) (new : PlayerState) →
+      Plays tells counts old (played_as line said blocks steps new) → names_command line ≡ true →
       AsksClient tells old line said new
   asks counts old line said blocks steps new plays = elim plays as (λ one plays. names_command one.line ≡ true → AsksClient tells old one.line one.said one.left) [
     | Blank ↦ λ names. no_command names
@@ -80,11 +81,14 @@ module _ (tells : Type 0) where
     has_cause : UsesEither old → (asks : AsksClient tells old line said new) → names_command line ≡ true → SaysHardware said
         → Rose old.machine.device.store.flash.faults new.machine.device.store.flash.faults
     has_cause (inl uses) asks names says =
-        asked_cause tells own (budget_of old) old.machine line asks.words new.machine (by_own old line said new uses asks) names (ap first_of (ap (λ said. map (λ (reply : Reply). reply.words) said) (sym asks.said_is) ∙ says))
+        asked_cause tells own (budget_of old) old.machine line asks.words new.machine (by_own old line said new uses asks) names
+        (ap first_of (ap (λ said. map (λ (reply : Reply). reply.words) said) (sym asks.said_is) ∙ says))
     has_cause (inr uses) asks names says =
-        shadow_cause tells own (budget_of old) old.machine machine line asks.words new.machine (by_its_shadow old line said new uses asks) names (ap first_of (ap (λ said. map (λ (reply : Reply). reply.words) said) (sym asks.said_is) ∙ says))
+        shadow_cause tells own (budget_of old) old.machine machine line asks.words new.machine (by_its_shadow old line said new uses asks) names
+        (ap first_of (ap (λ said. map (λ (reply : Reply). reply.words) said) (sym asks.said_is) ∙ says))
 
-    says_neither : UsesEither old → (asks : AsksClient tells old line said new) → enough_steps (client_of old).timings ≤ budget_of old → IsValid line → names_command line ≡ true → SaysNeither asks.words
+    says_neither : UsesEither old → (asks : AsksClient tells old line said new) → enough_steps (client_of old).timings ≤ budget_of old → IsValid line →
+        names_command line ≡ true → SaysNeither asks.words
     says_neither (inl uses) asks many valid names =
         asked_through tells own (budget_of old) old.machine machine (subst (λ (client : ClientState). enough_steps client.timings ≤ budget_of old) uses many)
         line asks.words new.machine (by_own old line said new uses asks) valid names
@@ -102,7 +106,8 @@ module _ (tells : Type 0) where
         (shadow_mapped_leaves (budget_of old) old.machine line asks.words new.machine
         (shadow_by_map tells own (budget_of old) old.machine machine told line asks.words new.machine (by_its_shadow old line said new uses asks) valid names))
 
-  pub line_played : OwnProgramsRun tells → (counts : List ℕ) (old : PlayerState) (line : Line) (said : List Reply) (blocks : List (List ℕ)) (steps : List Step) (new : PlayerState) → IsMachine old.machine → IsValid line →
+  pub line_played : OwnProgramsRun tells → (counts : List ℕ) (old : PlayerState) (line : Line) (said : List Reply) (blocks : List (List ℕ)) (steps : List Step)
+      (new : PlayerState) → IsMachine old.machine → IsValid line →
       Plays tells counts old (played_as line said blocks steps new) → LinePlayed tells counts old (played_as line said blocks steps new)
   line_played own counts old line said blocks steps new machine valid plays =
       let asks_own = asks counts old line said blocks steps new plays in
@@ -118,8 +123,10 @@ module _ (tells : Type 0) where
         cause = λ uses names says. has_cause own old line said new machine uses (asks_own names) names says;
         enough = λ uses names many.
             let a = asks_own names in
-            let neither = says_neither own old line said new machine uses a many valid names in
-            (λ why says. neither.not_stopped why (ap first_of (ap (λ said. map (λ (reply : Reply). reply.words) said) (sym a.said_is) ∙ says)), λ waited says. neither.in_time waited (ap first_of (ap (λ said. map (λ (reply : Reply). reply.words) said) (sym a.said_is) ∙ says)));
+            let neither = says_neither own old line said new machine uses a many valid names in (
+              λ why says. neither.not_stopped why (ap first_of (ap (λ said. map (λ (reply : Reply). reply.words) said) (sym a.said_is) ∙ says)),
+              λ waited says. neither.in_time waited (ap first_of (ap (λ said. map (λ (reply : Reply). reply.words) said) (sym a.said_is) ∙ says)),
+            );
         leaves = λ told uses own_line none.
             line_leaves tells told (client_of old).range counts old line said blocks steps new plays none
             (λ names. command_leaves own old line said new machine told (uses names) (asks_own names) valid names) own_line;

@@ -56,31 +56,36 @@ module _ (tells : Type 0) (old : MachineState) (own : ClientState) (steps : Opti
   }
 
   pub by_other : (client : ClientState) (other new_other : Option ClientState) (line : Line) (new : MachineState) (reply : List ℕ) → other ≡ Some client → new_other ≡ Some client
-      → Answers tells (asker_of client (unwrap_or steps (enough_steps client.timings))) old line new reply → MakesReply tells (player old own other steps state) line (player new own new_other steps state) reply
+      → Answers tells (asker_of client (unwrap_or steps (enough_steps client.timings))) old line new reply → MakesReply tells (player old own other steps state)
+      line (player new own new_other steps state) reply
   by_other client other new_other line new reply was is answers =
       subst (λ (o : Option ClientState). MakesReply tells (player old own o steps state) line (player new own new_other steps state) reply) (sym was)
       (subst (λ (o : Option ClientState). MakesReply tells (player old own (Some client) steps state) line (player new own o steps state) reply) (sym is)
       (record { words = answers.words; plays = λ counts. ByClient line answers.words new answers.commanded; made = answers.made }))
 
   pub by_own : (new_own : ClientState) (other new_other : Option ClientState) (line : Line) (new : MachineState) (reply : List ℕ) → other ≡ None → new_other ≡ None → new_own ≡ own
-      → Answers tells (asker_of own (unwrap_or steps (enough_steps own.timings))) old line new reply → MakesReply tells (player old own other steps state) line (player new new_own new_other steps state) reply
+      → Answers tells (asker_of own (unwrap_or steps (enough_steps own.timings))) old line new reply → MakesReply tells (player old own other steps state) line
+      (player new new_own new_other steps state) reply
   by_own new_own other new_other line new reply was is same answers =
       subst (λ (o : Option ClientState). MakesReply tells (player old own o steps state) line (player new new_own new_other steps state) reply) (sym was)
       (subst (λ (o : Option ClientState). MakesReply tells (player old own None steps state) line (player new new_own o steps state) reply) (sym is)
       (subst (λ (client : ClientState). MakesReply tells (player old own None steps state) line (player new client None steps state) reply) (sym same)
       (record { words = answers.words; plays = λ counts. ByClient line answers.words new answers.commanded; made = answers.made })))
 
-  pub by_machine : (other : Option ClientState) (line : Line) (words : List ℕ) (new : MachineState) (reply : List ℕ) → NeedsNoBridge state line → Happened tells old line (words ∷ []) [] new → IsMade reply words
+  pub by_machine : (other : Option ClientState) (line : Line) (words : List ℕ) (new : MachineState) (reply : List ℕ) → NeedsNoBridge state line →
+      Happened tells old line (words ∷ []) [] new → IsMade reply words
       → MakesReply tells (player old own other steps state) line (player new own other steps state) reply
   by_machine other line words new reply alone happened made = record { words = words; plays = λ counts. OnMachine line (words ∷ []) [] new alone happened; made = made }
 
   -- the bytes of a line's digits are handed to the machine
   module _ (other : Option ClientState) (hex items lent : List ℕ) (len : ℕ) (new : MachineState) (reply : List ℕ) (decoded : decode_of hex ≡ Ok (take len items)) (is : lent ≡ items) where
-    pub by_block : (result : Result ℕ SubmitError) → Submits old (take len lent) result new → IsMade reply (words_of_submission result) → MakesReply tells (player old own other steps state) (error hex) (player new own other steps state) reply
+    pub by_block : (result : Result ℕ SubmitError) → Submits old (take len lent) result new → IsMade reply (words_of_submission result) →
+        MakesReply tells (player old own other steps state) (error hex) (player new own other steps state) reply
     by_block result submits made = by_machine other (error hex) (words_of_submission result) new reply tt
         (Once (error hex) (Submitted (take len lent) result) (words_of_submission result) new (as_lent hex items lent len decoded is, refl) submits) made
 
-    pub by_fatal : (result : Result ℕ FatalError) → LaysFatal old (take len lent) result new → IsMade reply (words_of_laid result) → MakesReply tells (player old own other steps state) (fatal hex) (player new own other steps state) reply
+    pub by_fatal : (result : Result ℕ FatalError) → LaysFatal old (take len lent) result new → IsMade reply (words_of_laid result) →
+        MakesReply tells (player old own other steps state) (fatal hex) (player new own other steps state) reply
     by_fatal result lays made = by_machine other (fatal hex) (words_of_laid result) new reply tt
         (Once (fatal hex) (Laid (take len lent) result) (words_of_laid result) new (as_lent hex items lent len decoded is, refl) lays) made
 
@@ -119,10 +124,12 @@ module _ (tells : Type 0) (old : MachineState) (own : ClientState) (steps : Opti
       subst (λ (b : BridgeState). MakesReply tells (player old own other steps state) power (player new own None steps b) reply) (sym off)
       (record { words = codes "power " ++ decimal n; plays = λ counts. Power n new powers; made = made })
 
-  pub no_reset : (other : Option ClientState) (why : BootError) (new : MachineState) → Warms tells old (Err why) new → Stops tells (player old own other steps state) reset (player new own other steps state) FlashFault
+  pub no_reset : (other : Option ClientState) (why : BootError) (new : MachineState) → Warms tells old (Err why) new →
+      Stops tells (player old own other steps state) reset (player new own other steps state) FlashFault
   no_reset other why new warms = (new, ResetFails why new warms, failed (Warmed (Err why)) new warms warms.leaves.cause.0 warms.leaves.cause.1, warms.leaves.cause.1, refl)
 
-  pub no_power : (other : Option ClientState) (why : BootError) (new : MachineState) → Powers tells old (Err why) new → Stops tells (player old own other steps state) power (player new own other steps state) FlashFault
+  pub no_power : (other : Option ClientState) (why : BootError) (new : MachineState) → Powers tells old (Err why) new →
+      Stops tells (player old own other steps state) power (player new own other steps state) FlashFault
   no_power other why new powers =
       let cause = powers.restarts.leaves.cause in
       (new, PowerFails why new powers, failed (Powered (Err why)) new powers cause.0 cause.1, cause.1, refl)
@@ -143,7 +150,8 @@ module _ (tells : Type 0) (old : MachineState) (own : ClientState) (steps : Opti
       → IsMade reply (codes "bridge " ++ decimal id) → MakesReply tells (player old own other steps state) (bridge id) (player old own other steps next) reply
   by_bridge other id next reply free off idle is made =
       let none : refusal_by (is_reserved id) state (is_idle old.handover.situation) ≡ None =
-      ap (λ (a : Bool). refusal_by a state (is_idle old.handover.situation)) free ∙ ap (λ (s : BridgeState). refusal_by false s (is_idle old.handover.situation)) off ∙ ap (refusal_by false Off) idle in
+      ap (λ (a : Bool). refusal_by a state (is_idle old.handover.situation)) free
+      ∙ ap (λ (s : BridgeState). refusal_by false s (is_idle old.handover.situation)) off ∙ ap (refusal_by false Off) idle in
       subst (λ (b : BridgeState). MakesReply tells (player old own other steps state) (bridge id) (player old own other steps b) reply) (sym is)
       (record { words = codes "bridge " ++ decimal id; plays = λ counts. ByTheBridge (bridge id) _ [] [] (Awaits id) old (Enters id none); made = made })
 
@@ -163,7 +171,8 @@ module _ (tells : Type 0) (old : MachineState) (own : ClientState) (steps : Opti
   pub no_idle : (other : Option ClientState) (id : ℕ) (reply : List ℕ) → is_reserved id ≡ false → state ≡ Off → is_idle old.handover.situation ≡ false → IsMade reply (refused (codes "reading"))
       → MakesReply tells (player old own other steps state) (bridge id) (player old own other steps state) reply
   no_idle other id reply free off busy made = no_bridge other id (codes "reading") reply
-      (ap (λ (a : Bool). refusal_by a state (is_idle old.handover.situation)) free ∙ ap (λ (s : BridgeState). refusal_by false s (is_idle old.handover.situation)) off ∙ ap (refusal_by false Off) busy) made
+      (ap (λ (a : Bool). refusal_by a state (is_idle old.handover.situation)) free
+      ∙ ap (λ (s : BridgeState). refusal_by false s (is_idle old.handover.situation)) off ∙ ap (refusal_by false Off) busy) made
 
 -- whether the bridge is on, as it was tested
 pub is_off : (state : BridgeState) (test : Bool) → IsTrue test ↔ (state ≡ Off → ⊥) → test ≡ false → state ≡ Off

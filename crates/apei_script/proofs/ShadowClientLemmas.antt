@@ -38,7 +38,8 @@ module _ (tells : Type 0) (own : OwnProgramsRun tells) (steps : ℕ) (old : Mach
         ShadowClear id result left new (shadow_clear tells own told old (pieces_in old) id (holds_pieces old machine) valid steps result left new sequence)
     | CountsRecords result left new counts ↦ λ valid names.
         ShadowCount result left new (count_command tells own told steps old result left new (own_count tells (pieces_in old) steps old result left new counts))
-    | FindsNext result left new finds ↦ λ valid names. ShadowNext result left new (next_command tells own told steps old result left new (own_next tells (pieces_in old) steps old result left new finds))
+    | FindsNext result left new finds ↦ λ valid names. ShadowNext result left new (next_command tells own told steps old result left new
+        (own_next tells (pieces_in old) steps old result left new finds))
     | WritesDummy result left new sequence ↦ λ valid names. ShadowPlayed result left new (shadow_dummy tells own old (pieces_in old) (holds_pieces old machine) steps result left new sequence)
     | RunsAction code value answer left new run ↦ λ valid names. no_command names
   ]

@@ -29,10 +29,12 @@ module _ (tells : Type 0) (law : (first : MachineState) → IsMachine first → 
       → budget ≡ ATTACH_STEPS → Attaches (Allows tells) erst budget first result left last
       → Attaches (Allows tells) (shadow_erst (pieces_in first)) ATTACH_STEPS first result left last × AttachesShadow ATTACH_STEPS first result left last
   attaches_it erst budget first result left last machine is given attaches =
-      let attaches_so = subst (λ (e : Erst). Attaches (Allows tells) e ATTACH_STEPS first result left last) is (subst (λ (n : ℕ). Attaches (Allows tells) erst n first result left last) given attaches) in
+      let attaches_so = subst (λ (e : Erst). Attaches (Allows tells) e ATTACH_STEPS first result left last) is
+      (subst (λ (n : ℕ). Attaches (Allows tells) erst n first result left last) given attaches) in
       (attaches_so, law first machine (record { budget = ATTACH_STEPS; answer = result; left = left; last = last }) (omega arith) attaches_so)
 
-  pub is_given : (erst : Erst) (budget : ℕ) (first : MachineState) (client : ClientState) (left : ℕ) (last : MachineState) → IsMachine first → erst ≡ shadow_erst (pieces_in first) → budget ≡ ATTACH_STEPS
+  pub is_given : (erst : Erst) (budget : ℕ) (first : MachineState) (client : ClientState) (left : ℕ) (last : MachineState) → IsMachine first →
+      erst ≡ shadow_erst (pieces_in first) → budget ≡ ATTACH_STEPS
       → Attaches (Allows tells) erst budget first (Ok client) left last → Reaches (Allows tells) first last → IsShadowGiven tells first last client
   is_given erst budget first client left last machine is given attaches reaches =
       let both = attaches_it erst budget first (Ok client) left last machine is given attaches in
@@ -48,6 +50,7 @@ module _ (tells : Type 0) (law : (first : MachineState) → IsMachine first → 
         };
       }
 
-  pub never_fails : (erst : Erst) (budget : ℕ) (first : MachineState) (why : AttachError) (left : ℕ) (last : MachineState) → IsMachine first → erst ≡ shadow_erst (pieces_in first) → budget ≡ ATTACH_STEPS
+  pub never_fails : (erst : Erst) (budget : ℕ) (first : MachineState) (why : AttachError) (left : ℕ) (last : MachineState) → IsMachine first →
+      erst ≡ shadow_erst (pieces_in first) → budget ≡ ATTACH_STEPS
       → Attaches (Allows tells) erst budget first (Err why) left last → ⊥
   never_fails erst budget first why left last machine is given attaches = let never = (attaches_it erst budget first (Err why) left last machine is given attaches).1.result_is in cc never

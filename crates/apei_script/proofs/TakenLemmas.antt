@@ -17,7 +17,14 @@ fills_none false m n is = cc
 
 offers_none : (m : Machine) (waiting : List (List ℕ)) → ◌≡◌ {A = Event} Took (offered m waiting).0 → ⊥
 offers_none m [] is = cc
-offers_none m (block ∷ waiting) is = fills_none (nat_lt m.filled (pieces block)) (record m { filled = m.filled + 1; window = with_piece m.window block m.filled }) (record m { published = m.published + 1; filled = 0; window = with_status m.window (take 4 block); situation = Published }) is
+offers_none m (block ∷ waiting) is = fills_none (nat_lt m.filled (pieces block))
+    (record m { filled = m.filled + 1; window = with_piece m.window block m.filled }) (record m {
+      published = m.published + 1;
+      filled = 0;
+      window =
+          with_status m.window (take 4 block);
+      situation = Published;
+    }) is
 
 -- the firmware takes none
 firmware_none : (m : Machine) (s : Situation) → ◌≡◌ {A = Event} Took (firmware_turn m s).0 → ⊥

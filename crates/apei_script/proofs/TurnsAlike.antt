@@ -44,7 +44,8 @@ turns-push (first ∷ letters) old mid new events blocks letter event is turns =
   turns-push letters is.1 mid new is.2 is.3 letter event is.7 turns,
 )
 
-pub turns_by : (old : MachineState) (letters : List ℕ) (events : List Event) (blocks : List (List ℕ)) (new : MachineState) → Turned old letters events blocks new → TurnsBy old letters events blocks new
+pub turns_by : (old : MachineState) (letters : List ℕ) (events : List Event) (blocks : List (List ℕ)) (new : MachineState) →
+    Turned old letters events blocks new → TurnsBy old letters events blocks new
 turns_by old letters events blocks new turned = elim turned as (λ letters events blocks new turned. TurnsBy old letters events blocks new) [
   | NoTurn ↦ (refl, refl, refl)
   | OneMore letters events blocks mid letter event new (before → by) turns ↦ turns-push letters old mid new events blocks letter event by turns

@@ -25,7 +25,8 @@ use Rattle.erst_bridge.specs.declared.events.BridgeEvent.TheVariants.{Line as By
 use Rattle.erst_bridge.specs.Bridges.{BridgeState, Off}
 use Rattle.erst_bridge.specs.Turns.{OfBridge, Step}
 use Rattle.apei_script.specs.RunWords.{words_of_stop}
-use Rattle.script_text.specs.ScriptGrammar.{Line, IsValid, blank, comment, write, read, clear, count, next, dummy, action, table, own_table, shadow_table, error, turns, fatal, bert, heard, reset, power}
+use Rattle.script_text.specs.ScriptGrammar.{Line, IsValid, blank, comment, write, read, clear, count, next, dummy, action, table, own_table, shadow_table}
+use Rattle.script_text.specs.ScriptGrammar.{error, turns, fatal, bert, heard, reset, power}
 use Rattle.apei_script.specs.declared.player.PlayStop.{PlayStop}
 use Rattle.apei_script.specs.declared.player.PlayStop.TheVariants.{SinkFault, FlashFault, Memory}
 use Rattle.erst_shadow.specs.ShadowTables.{shadow_count, shadow_erst}

@@ -22,7 +22,8 @@ room_fits (Io base) n (Io at) h = room_in_fits base n at h
 room_fits (Memory base) n (Io at) h = (omega arith, λ no. absurd (no refl))
 room_fits (Io base) n (Memory at) h = (omega arith, λ no. absurd (no refl))
 
-pub location_fits : (windows : List Window) (start : ℕ) (at : Place) (given : ℕ × ℕ) → AreApart windows → location windows start at ≡ Some given → LocationFits (start + total windows) (2 ^ 64) at given
+pub location_fits : (windows : List Window) (start : ℕ) (at : Place) (given : ℕ × ℕ) → AreApart windows → location windows start at ≡ Some given →
+    LocationFits (start + total windows) (2 ^ 64) at given
 location_fits [] start at given apart is = absurd cc
 location_fits (window ∷ windows) start at given apart is = go (room window at == 0) refl (location_fits windows (start + window.len) at given apart.2) where
   go : (b : Bool) → (room window at == 0) ≡ b → (location windows (start + window.len) at ≡ Some given → LocationFits (start + window.len + total windows) (2 ^ 64) at given) →

@@ -129,7 +129,8 @@ finds_room (window ∷ windows) start at = elim (cases_eq (room window at) 0) [
   | inl none ↦
       let skips : location (window ∷ windows) start at ≡ location windows (start + window.len) at =
       ap (λ (b : Bool). cond b (location windows (start + window.len) at) (Some (start + (window.len - room window at), room window at))) (eq-eqb (room window at) 0 none) in
-      subst (λ (o : Option (ℕ × ℕ)). FindsRoom (window ∷ windows) at o) (sym skips) (FindsRoom-later window windows at (location windows (start + window.len) at) none (finds_room windows (start + window.len) at))
+      subst (λ (o : Option (ℕ × ℕ)). FindsRoom (window ∷ windows) at o) (sym skips)
+      (FindsRoom-later window windows at (location windows (start + window.len) at) none (finds_room windows (start + window.len) at))
   | inr some ↦
       let stops : location (window ∷ windows) start at ≡ Some (start + (window.len - room window at), room window at) =
       ap (λ (b : Bool). cond b (location windows (start + window.len) at) (Some (start + (window.len - room window at), room window at))) (ne_eqb (room window at) 0 some) in
@@ -157,7 +158,8 @@ finds_within windows at n (Some location) some apart finds = elim (cases_lt loca
       let all : within (Some location) (address_of at) n ≡ Ok location.0 = ap (λ (b : Bool). cond {A = Result ℕ ℕ} b (Ok location.0) (Err (address_of at + location.1))) (le-leb n location.1 fits) in
       subst (λ (r : Result ℕ ℕ). FindsBytes windows at n r) (sym all) (λ k h. finds.1 k (omega arith))
   | inl short ↦
-      let part : within (Some location) (address_of at) n ≡ Err (address_of at + location.1) = ap (λ (b : Bool). cond {A = Result ℕ ℕ} b (Ok location.0) (Err (address_of at + location.1))) (lt-leb n location.1 short) in
+      let part : within (Some location) (address_of at) n ≡ Err (address_of at + location.1) =
+      ap (λ (b : Bool). cond {A = Result ℕ ℕ} b (Ok location.0) (Err (address_of at + location.1))) (lt-leb n location.1 short) in
       subst (λ (r : Result ℕ ℕ). FindsBytes windows at n r) (sym part) (
         location.1,
         record {
@@ -175,6 +177,7 @@ finds_bytes windows at n apart = elim (cases_eq n 0) [
       let nothing : found windows at n ≡ Ok 0 = ap (λ (b : Bool). cond {A = Result ℕ ℕ} b (Ok 0) (within (location windows 0 at) (address_of at) n)) (eq-eqb n 0 none) in
       subst (λ (r : Result ℕ ℕ). FindsBytes windows at n r) (sym nothing) (λ k h. absurd (omega arith))
   | inr some ↦
-      let bytes : found windows at n ≡ within (location windows 0 at) (address_of at) n = ap (λ (b : Bool). cond {A = Result ℕ ℕ} b (Ok 0) (within (location windows 0 at) (address_of at) n)) (ne_eqb n 0 some) in
+      let bytes : found windows at n ≡ within (location windows 0 at) (address_of at) n =
+      ap (λ (b : Bool). cond {A = Result ℕ ℕ} b (Ok 0) (within (location windows 0 at) (address_of at) n)) (ne_eqb n 0 some) in
       subst (λ (r : Result ℕ ℕ). FindsBytes windows at n r) (sym bytes) (finds_within windows at n (location windows 0 at) (omega arith) apart (finds_room windows 0 at))
 ]

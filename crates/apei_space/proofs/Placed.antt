@@ -1,5 +1,6 @@
 -- Where accesses of mapped bytes stand among all bytes.
-use Rattle.std.proofs.Common.{◌≡◌, ◌∙◌, ℕ, zero, suc, ◌+◌, ◌-◌, ◌<◌, ◌≤◌, ◌⊎◌, ◌==◌, inl, inr, nat_le, cond, Bool, true, false, List, [], ◌∷◌, length, take, get_or, Option, Some, None, Result, Ok, Err, refl, sym, ap, subst, arith, le-leb}
+use Rattle.std.proofs.Common.{◌≡◌, ◌∙◌, ℕ, zero, suc, ◌+◌, ◌-◌, ◌<◌, ◌≤◌, ◌⊎◌, ◌==◌, inl, inr, nat_le, cond, Bool, true, false, List, [], ◌∷◌, length, take}
+use Rattle.std.proofs.Common.{get_or, Option, Some, None, Result, Ok, Err, refl, sym, ap, subst, arith, le-leb}
 use Rattle.std.proofs.lemmas.Bool.{cases_lt, cases_eq, ne_eqb}
 use Rattle.std.proofs.lemmas.Bool.Decides.{nat_tests}
 use Rattle.apei_tables.specs.declared.registers.Place.{Place}
@@ -62,7 +63,8 @@ room_le (Io base) n (Io at) = room_in-le base n at
 room_le (Memory base) n (Io at) = omega arith
 room_le (Io base) n (Memory at) = omega arith
 
-location_head : (window : Window) (windows : List Window) (start : ℕ) (at : Place) → 0 < room window at → location (window ∷ windows) start at ≡ Some (start + (window.len - room window at), room window at)
+location_head : (window : Window) (windows : List Window) (start : ℕ) (at : Place) → 0 < room window at → location (window ∷ windows) start at
+    ≡ Some (start + (window.len - room window at), room window at)
 location_head window windows start at h = let e : (room window at == 0) ≡ false = grind (arith, nat_tests) in rw e refl
 
 location_tail : (window : Window) (windows : List Window) (start : ℕ) (at : Place) → room window at ≡ 0 → location (window ∷ windows) start at ≡ location windows (start + window.len) at
@@ -101,26 +103,30 @@ location_at (window ∷ windows) start at zero w apart inside is more =
     subst (λ (x : Window). location (window ∷ windows) start at ≡ Some (start + 0 + (x.len - room x at), room x at)) is
     (location_head window windows start at (subst (λ (x : Window). 0 < room x at) (sym is) more)
     ∙ ap (λ (n : ℕ). Some (n + (window.len - room window at), room window at)) (omega arith))
-location_at (window ∷ windows) start at (suc i) w apart inside is more = go (cases_eq (room window at) 0) (location_at windows (start + window.len) at i w apart.2 (omega (arith, inside)) is more) where
-  mapped : IsMapped windows at
-  mapped = mapped_at windows at i w (omega (arith, inside)) is (holds w.place w.len at more)
+location_at (window ∷ windows) start at (suc i) w apart inside is more =
+    go (cases_eq (room window at) 0) (location_at windows (start + window.len) at i w apart.2 (omega (arith, inside)) is more) where
+      mapped : IsMapped windows at
+      mapped = mapped_at windows at i w (omega (arith, inside)) is (holds w.place w.len at more)
 
-  go : (room window at ≡ 0) ⊎ (room window at ≡ 0 → ⊥) → location windows (start + window.len) at ≡ Some (start + window.len + total (take i windows) + (w.len - room w at), room w at)
-      → location (window ∷ windows) start at ≡ Some (start + (window.len + total (take i windows)) + (w.len - room w at), room w at)
-  go (inl none) later = location_tail window windows start at none ∙ later ∙ ap (λ (n : ℕ). Some (n + (w.len - room w at), room w at)) (omega arith)
-  go (inr some) later = absurd (unheld_by window windows at apart.1 (holds window.place window.len at (grind arith)) mapped)
+      go : (room window at ≡ 0) ⊎ (room window at ≡ 0 → ⊥) → location windows (start + window.len) at ≡ Some (start + window.len + total (take i windows) + (w.len - room w at), room w at)
+          → location (window ∷ windows) start at ≡ Some (start + (window.len + total (take i windows)) + (w.len - room w at), room w at)
+      go (inl none) later = location_tail window windows start at none ∙ later ∙ ap (λ (n : ℕ). Some (n + (w.len - room w at), room w at)) (omega arith)
+      go (inr some) later = absurd (unheld_by window windows at apart.1 (holds window.place window.len at (grind arith)) mapped)
 
-pub location_further : (windows : List Window) (start : ℕ) (at : Place) (s r k : ℕ) → AreApart windows → location windows start at ≡ Some (s, r) → k < r → location windows start (further at k) ≡ Some (s + k, r - k)
+pub location_further : (windows : List Window) (start : ℕ) (at : Place) (s r k : ℕ) → AreApart windows → location windows start at ≡ Some (s, r) → k < r →
+    location windows start (further at k) ≡ Some (s + k, r - k)
 location_further [] start at s r k apart is h = absurd cc
 location_further (window ∷ windows) start at s r k apart is h = go (cases_eq (room window at) 0) (λ later. location_further windows (start + window.len) at s r k apart.2 later h) where
-  go : (room window at ≡ 0) ⊎ (room window at ≡ 0 → ⊥) → (location windows (start + window.len) at ≡ Some (s, r) → location windows (start + window.len) (further at k) ≡ Some (s + k, r - k)) → location (window ∷ windows) start (further at k) ≡ Some (s + k, r - k)
+  go : (room window at ≡ 0) ⊎ (room window at ≡ 0 → ⊥) → (location windows (start + window.len) at ≡ Some (s, r) → location windows (start + window.len)
+      (further at k) ≡ Some (s + k, r - k)) → location (window ∷ windows) start (further at k) ≡ Some (s + k, r - k)
   go (inl none) rest =
       let later : location windows (start + window.len) at ≡ Some (s, r) = sym (location_tail window windows start at none) ∙ is in
       let no_room : room window (further at k) ≡ 0 = elsewhere (cases_eq (room window (further at k)) 0) later in
       location_tail window windows start (further at k) no_room ∙ rest later where
         elsewhere : (room window (further at k) ≡ 0) ⊎ (room window (further at k) ≡ 0 → ⊥) → location windows (start + window.len) at ≡ Some (s, r) → room window (further at k) ≡ 0
         elsewhere (inl z) later = z
-        elsewhere (inr some) later = absurd (unheld_by window windows (further at k) apart.1 (holds window.place window.len (further at k) (grind arith)) (location_mapped windows (start + window.len) at s r k later h))
+        elsewhere (inr some) later = absurd (unheld_by window windows (further at k) apart.1 (holds window.place window.len (further at k) (grind arith))
+            (location_mapped windows (start + window.len) at s r k later h))
   go (inr some) rest =
       let e = head_is window windows start at s r some is in
       let same = e.1 in
@@ -211,7 +217,8 @@ found_placed windows at n s some is = go (location windows 0 at) refl where
           start_is : (k : ℕ) → found windows at n ≡ Ok k → k ≡ s
           start_is k f = let both : refused (Ok k) ≡ Ok s = sym (ap refused f) ∙ is in cc
     test false h =
-        let all : found windows at n ≡ Err (address_of at + x.1) = plain ∙ ap (λ (o : Option (ℕ × ℕ)). within o (address_of at) n) e ∙ ap (λ (b : Bool). cond {A = Result ℕ ℕ} b (Ok x.0) (Err (address_of at + x.1))) h in
+        let all : found windows at n ≡ Err (address_of at + x.1) = plain ∙ ap (λ (o : Option (ℕ × ℕ)). within o (address_of at) n) e
+        ∙ ap (λ (b : Bool). cond {A = Result ℕ ℕ} b (Ok x.0) (Err (address_of at + x.1))) h in
         absurd (none (address_of at + x.1) all)
 
 -- an access all of whose bytes are mapped is found
@@ -239,7 +246,8 @@ placed_fits windows at n s apart p =
     let fits = p.fits in
     omega (arith, w, fits)
 
-pub placed_apart : (windows : List Window) (p : Place) (n s : ℕ) (q : Place) (m t : ℕ) → 0 < n → 0 < m → IsPlaced windows p n s → IsPlaced windows q m t → AreDisjoint p n q m → (s + n ≤ t) ⊎ (t + m ≤ s)
+pub placed_apart : (windows : List Window) (p : Place) (n s : ℕ) (q : Place) (m t : ℕ) → 0 < n → 0 < m → IsPlaced windows p n s → IsPlaced windows q m t →
+    AreDisjoint p n q m → (s + n ≤ t) ⊎ (t + m ≤ s)
 placed_apart windows p n s q m t a b x y d = locations_apart windows 0 p n q m s x.room t y.room a b d x.location_is x.fits y.location_is y.fits
 
 -- two places are one, or their bytes are two

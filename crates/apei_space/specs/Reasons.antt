@@ -39,17 +39,22 @@ reasons old new (Write at width value answer) allowed =
     let place = found old.windows at (bits width / 8) in
     let why = of_answer old place (spelled (bits width / 8) value) in
     subst (λ (a : Result (Unit {0}) SpaceFault). HasReason (λ (_ : RamState). 0) old (Write at width value a) new) (sym allowed.0)
-    (subst (λ (s : RamState). HasReason (λ (_ : RamState). 0) old (Write at width value (answer_of (refused place))) s) (sym allowed.1) (record { never_falls = omega arith; leaves = why.0; of_call = why.1 }))
+    (subst (λ (s : RamState). HasReason (λ (_ : RamState). 0) old (Write at width value (answer_of (refused place))) s) (sym allowed.1)
+    (record { never_falls = omega arith; leaves = why.0; of_call = why.1 }))
 reasons old new (Wait micros) allowed = record { never_falls = omega arith; leaves = tt; of_call = tt }
 reasons old new (Copy from target len answer) allowed =
     let why = of_copy old (found old.windows (Memory from) len) (found old.windows (Memory target) len) len in
     subst (λ (a : Result (Unit {0}) SpaceFault). HasReason (λ (_ : RamState). 0) old (Copy from target len a) new) (sym allowed.0)
-    (subst (λ (s : RamState). HasReason (λ (_ : RamState). 0) old (Copy from target len (copied (refused (found old.windows (Memory from) len)) (refused (found old.windows (Memory target) len)) len old).0) s) (sym allowed.1) (record { never_falls = omega arith; leaves = why.0; of_call = why.1 }))
+    (subst (λ (s : RamState). HasReason (λ (_ : RamState). 0) old
+    (Copy from target len (copied (refused (found old.windows (Memory from) len)) (refused (found old.windows (Memory target) len)) len old).0) s)
+    (sym allowed.1) (record { never_falls = omega arith; leaves = why.0; of_call = why.1 }))
 reasons old new (ReadBytes at before after answer) allowed =
     let why = of_bytes old new (found old.windows (Memory at) (length before)) allowed.2 in
-    subst (λ (a : Result (Unit {0}) SpaceFault). HasReason (λ (_ : RamState). 0) old (ReadBytes at before after a) new) (sym allowed.0) (record { never_falls = omega arith; leaves = why.0; of_call = why.1 })
+    subst (λ (a : Result (Unit {0}) SpaceFault). HasReason (λ (_ : RamState). 0) old (ReadBytes at before after a) new) (sym allowed.0)
+    (record { never_falls = omega arith; leaves = why.0; of_call = why.1 })
 reasons old new (WriteBytes at bytes answer) allowed =
     let place = found old.windows (Memory at) (length bytes) in
     let why = of_answer old place bytes in
     subst (λ (a : Result (Unit {0}) SpaceFault). HasReason (λ (_ : RamState). 0) old (WriteBytes at bytes a) new) (sym allowed.0)
-    (subst (λ (s : RamState). HasReason (λ (_ : RamState). 0) old (WriteBytes at bytes (answer_of (refused place))) s) (sym allowed.1) (record { never_falls = omega arith; leaves = why.0; of_call = why.1 }))
+    (subst (λ (s : RamState). HasReason (λ (_ : RamState). 0) old (WriteBytes at bytes (answer_of (refused place))) s) (sym allowed.1)
+    (record { never_falls = omega arith; leaves = why.0; of_call = why.1 }))

@@ -1,5 +1,6 @@
 -- What is found is the one table that the bytes begin with.
-use Rattle.std.proofs.Common.{◌≡◌, ℕ, ◌+◌, ◌≤◌, ◌%◌, nat_lt, List, ◌++◌, length, take, drop, sum, nat_eq, true, false, Some, None, Result, Ok, Err, IfOk, refl, sym, ap, subst, ◌∙◌, arith, length-append}
+use Rattle.std.proofs.Common.{◌≡◌, ℕ, ◌+◌, ◌≤◌, ◌%◌, nat_lt, List, ◌++◌, length, take, drop, sum, nat_eq, true, false, Some, None, Result, Ok, Err, IfOk, refl}
+use Rattle.std.proofs.Common.{sym, ap, subst, ◌∙◌, arith, length-append}
 use denote.Bor.{Bor}
 use Rattle.std.specs.List.{starts_with}
 use Rattle.std.proofs.lemmas.Slice.Eq.{starts_is}
@@ -39,7 +40,8 @@ finds signature fixed bytes header low have begins fits wanted field long within
 pub begins : (bytes signature : List ℕ) → length signature ≡ 4 → starts_with nat_eq bytes signature ≡ true → part bytes 0 4 ≡ signature
 unfolding part
 begins bytes signature size starts =
-    let same : bytes ≡ signature ++ drop 4 bytes = subst (λ (n : ℕ). bytes ≡ signature ++ drop n bytes) size ((starts_is Decides-eqb bytes signature (starts_with nat_eq bytes signature) refl).0 starts) in
+    let same : bytes ≡ signature ++ drop 4 bytes = subst (λ (n : ℕ). bytes ≡ signature ++ drop n bytes) size
+    ((starts_is Decides-eqb bytes signature (starts_with nat_eq bytes signature) refl).0 starts) in
     ap (take 4) same ∙ take_at signature (drop 4 bytes) 4 size
 
 begins_by : (bytes signature : List ℕ) → length signature ≡ 4 → part bytes 0 4 ≡ signature → starts_with nat_eq bytes signature ≡ true

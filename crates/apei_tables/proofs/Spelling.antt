@@ -34,7 +34,18 @@ sizes-fields header has =
 
 -- the header that stands at the front of bytes
 abbrev pub found : List ℕ → Header
-found bytes = record { signature = part bytes 0 4; length = number_at bytes 4 4; revision = get_or bytes 8 0; checksum = get_or bytes 9 0; oem_id = part bytes 10 6; oem_table_id = part bytes 16 8; oem_revision = number_at bytes 24 4; creator_id = part bytes 28 4; creator_revision = number_at bytes 32 4 }
+found bytes = record {
+  signature = part bytes 0 4;
+  length = number_at bytes 4 4;
+  revision = get_or bytes 8 0;
+  checksum = get_or bytes 9 0;
+  oem_id =
+      part bytes 10 6;
+  oem_table_id = part bytes 16 8;
+  oem_revision = number_at bytes 24 4;
+  creator_id = part bytes 28 4;
+  creator_revision = number_at bytes 32 4;
+}
 
 part-two : (bytes : List ℕ) (at : ℕ) → at + 2 ≤ length bytes → part bytes at 2 ≡ get_or bytes at 0 ∷ get_or bytes (at + 1) 0 ∷ []
 unfolding part

@@ -1,5 +1,6 @@
 -- A stream that is cut into records step by step.
-use Rattle.std.proofs.Common.{◌≡◌, ℕ, zero, suc, ◌+◌, ◌-◌, ◌<◌, ◌≤◌, inl, inr, Bool, true, false, cond, List, [], ◌∷◌, ◌++◌, length, take, drop, Option, Some, None, Result, Ok, Err, refl, sym, ap, subst, ◌∙◌, arith, length-drop, append_assoc}
+use Rattle.std.proofs.Common.{◌≡◌, ℕ, zero, suc, ◌+◌, ◌-◌, ◌<◌, ◌≤◌, inl, inr, Bool, true, false, cond, List, [], ◌∷◌, ◌++◌, length, take, drop, Option, Some}
+use Rattle.std.proofs.Common.{None, Result, Ok, Err, refl, sym, ap, subst, ◌∙◌, arith, length-drop, append_assoc}
 use Rattle.std.proofs.Common.{get_or}
 use Rattle.std.specs.Prelude.{◌==◌, is_some}
 use Rattle.std.proofs.lemmas.Bool.{cases_Bool, cond-true, cond-false}
@@ -16,7 +17,8 @@ use Rattle.cper_frame.specs.declared.fed.Fed.{Fed}
 use Rattle.cper_frame.specs.declared.pieces.Progress.TheVariants.{Took, Stopped}
 use Rattle.cper_frame.specs.Grammar.{RecordValue, IsRecord}
 use Rattle.cper_frame.specs.Reading.{checked, record_of}
-use Rattle.cper_frame.specs.Stream.{Reader, is_need, reader_holding, reader_failing, feed_result_by, feed_result, frame_of, without_frame, GetsOn, refusal, IsRecordWithin, Splits, Waits, Going, Refused}
+use Rattle.cper_frame.specs.Stream.{Reader, is_need, reader_holding, reader_failing, feed_result_by, feed_result, frame_of, without_frame, GetsOn, refusal}
+use Rattle.cper_frame.specs.Stream.{IsRecordWithin, Splits, Waits, Going, Refused}
 use Rattle.cper_frame.specs.Pieces.{Stepped, Passed as PassedPiece}
 use Rattle.cper_frame.proofs.Checks.{Passed, passed, passes}
 use Rattle.apei_bytes.proofs.Parts.{number_at-front}
@@ -76,7 +78,8 @@ same_fed f g e = cc
 
 refused_answer : (r : Reader) (rest : List ℕ) (error : FrameError) → is_need error ≡ false → (feed_result_by r rest (Err error)).1 ≡ Err error
 refused_answer r rest error no_need =
-    ap (λ (t : Bool). (cond {A = Reader × Result Fed FrameError} t (reader_holding r (r.held ++ rest), Ok (record { taken = length rest; whole = false })) (reader_failing r error, Err error)).1) no_need
+    ap (λ (t : Bool). (cond {A = Reader × Result Fed FrameError} t (reader_holding r (r.held ++ rest), Ok (record { taken = length rest; whole = false }))
+    (reader_failing r error, Err error)).1) no_need
 
 pub none_step : (r new : Reader) (rest : List ℕ) (f : Fed) (before : List (List ℕ)) → Waits r → 0 < length rest → new ≡ (feed_result r rest).0 → Ok f ≡ (feed_result r rest).1 → frame_of new ≡ None
     → Cases (checked r.limit (r.held ++ rest)) → Stepped r new before before rest (Took f.taken)
@@ -105,7 +108,8 @@ none_step r new rest f before waits some a b none (at_err error e no_need) =
     b ∙ ap (λ (x : Reader × Result Fed FrameError). x.1) is ∙ refused_answer r rest error no_need in
     absurd (cc)
 
-pub some_step : (r new final : Reader) (rest : List ℕ) (f : Fed) (before after : List (List ℕ)) (value : RecordValue) → Waits r → new ≡ (feed_result r rest).0 → Ok f ≡ (feed_result r rest).1 → Some value ≡ frame_of new → IsRecord value new.held
+pub some_step : (r new final : Reader) (rest : List ℕ) (f : Fed) (before after : List (List ℕ)) (value : RecordValue) → Waits r → new ≡ (feed_result r rest).0 →
+    Ok f ≡ (feed_result r rest).1 → Some value ≡ frame_of new → IsRecord value new.held
     → final ≡ without_frame new → after ≡ before ++ new.held ∷ [] → f.taken ≤ length rest → Cases (checked r.limit (r.held ++ rest)) → Stepped r final before after rest (Took f.taken)
 some_step r new final rest f before after value waits a b some is_record advance pushed within (at_ok len e) =
     let is = fed_is r rest (Ok len) waits.sound e in
@@ -152,10 +156,12 @@ some_step r new final rest f before after value waits a b some is_record advance
     absurd (cc)
 
 -- one step and then another
-pub going_on : (limit : ℕ) (stream front more : List ℕ) (records : List (List ℕ)) (held : List ℕ) → Going limit ((stream ++ front) ++ more) records held → Going limit (stream ++ (front ++ more)) records held
+pub going_on : (limit : ℕ) (stream front more : List ℕ) (records : List (List ℕ)) (held : List ℕ) → Going limit ((stream ++ front) ++ more) records held →
+    Going limit (stream ++ (front ++ more)) records held
 going_on limit stream front more records held g = subst (λ (xs : List ℕ). Going limit xs records held) (append_assoc stream front more) g
 
-pub refused_on : (limit : ℕ) (stream front more : List ℕ) (records : List (List ℕ)) (error : FrameError) → Refused limit ((stream ++ front) ++ more) records error → Refused limit (stream ++ (front ++ more)) records error
+pub refused_on : (limit : ℕ) (stream front more : List ℕ) (records : List (List ℕ)) (error : FrameError) → Refused limit ((stream ++ front) ++ more) records
+    error → Refused limit (stream ++ (front ++ more)) records error
 refused_on limit stream front more records error g = subst (λ (xs : List ℕ). Refused limit xs records error) (append_assoc stream front more) g
 
 -- nothing was taken yet
@@ -172,7 +178,8 @@ pub record PieceSoFar (old now : Reader) (before after : List (List ℕ)) (piece
 pub piece_begins : (old : Reader) (before : List (List ℕ)) (piece : List ℕ) → Waits old → PieceSoFar old old before before piece 0
 piece_begins old before piece waits = record { within = omega arith; waits = waits; limit = refl; going = λ stream g. going_none old.limit stream before old.held g }
 
-pub piece_took : (old now new : Reader) (before middle after : List (List ℕ)) (piece rest : List ℕ) (at n : ℕ) → PieceSoFar old now before middle piece at → rest ≡ drop at piece → Stepped now new middle after rest (Took n)
+pub piece_took : (old now new : Reader) (before middle after : List (List ℕ)) (piece rest : List ℕ) (at n : ℕ) → PieceSoFar old now before middle piece at →
+    rest ≡ drop at piece → Stepped now new middle after rest (Took n)
     → PieceSoFar old new before after piece (at + n)
 piece_took old now new before middle after piece rest at n so e step =
     let size = length-drop at piece in
@@ -191,7 +198,8 @@ piece_took old now new before middle after piece rest at n so e step =
           (subst (λ (k : ℕ). Going k ((stream ++ take at piece) ++ take n rest) after new.held) so.limit (step.4 (stream ++ take at piece) here)));
     }
 
-pub piece_stopped : (old now new : Reader) (before middle after : List (List ℕ)) (piece rest : List ℕ) (at : ℕ) (error : FrameError) → PieceSoFar old now before middle piece at → rest ≡ drop at piece → Stepped now new middle after rest (Stopped error)
+pub piece_stopped : (old now new : Reader) (before middle after : List (List ℕ)) (piece rest : List ℕ) (at : ℕ) (error : FrameError) →
+    PieceSoFar old now before middle piece at → rest ≡ drop at piece → Stepped now new middle after rest (Stopped error)
     → PassedPiece old new before after piece (Some error)
 piece_stopped old now new before middle after piece rest at error so e step = λ stream g.
     let here : Going now.limit (stream ++ take at piece) middle now.held = subst (λ (k : ℕ). Going k (stream ++ take at piece) middle now.held) (sym so.limit) (so.going stream g) in
@@ -200,7 +208,8 @@ piece_stopped old now new before middle after piece rest at error so e step = λ
     (refused_on old.limit stream (take at piece) rest after error
     (subst (λ (k : ℕ). Refused k ((stream ++ take at piece) ++ rest) after error) so.limit (step (stream ++ take at piece) here)))
 
-pub piece_ends : (old now : Reader) (before after : List (List ℕ)) (piece : List ℕ) (at : ℕ) → PieceSoFar old now before after piece at → length piece ≤ at → PassedPiece old now before after piece None
+pub piece_ends : (old now : Reader) (before after : List (List ℕ)) (piece : List ℕ) (at : ℕ) → PieceSoFar old now before after piece at → length piece ≤ at →
+    PassedPiece old now before after piece None
 piece_ends old now before after piece at so h =
     (so.waits, so.limit, λ stream g. subst (λ (xs : List ℕ). Going old.limit (stream ++ xs) after now.held) (take_all at piece h) (so.going stream g))
 
@@ -217,10 +226,12 @@ stream_begins limit reader e = subst (λ (r : Reader). StreamSoFar limit r [] []
   going = record { whole = refl; each = All-nil (IsRecordWithin limit) };
 })
 
-pub stream_stops : (limit : ℕ) (old new : Reader) (stream piece following : List ℕ) (before after : List (List ℕ)) (error : FrameError) → StreamSoFar limit old stream before → PassedPiece old new before after piece (Some error)
+pub stream_stops : (limit : ℕ) (old new : Reader) (stream piece following : List ℕ) (before after : List (List ℕ)) (error : FrameError) →
+    StreamSoFar limit old stream before → PassedPiece old new before after piece (Some error)
     → (rest : List ℕ) × Splits limit ((stream ++ piece) ++ following) after rest error × (is_need error ≡ false)
 stream_stops limit old new stream piece following before after error so p =
-    let r : Refused limit (stream ++ piece) after error = subst (λ (k : ℕ). Refused k (stream ++ piece) after error) so.limit_is (p stream (subst (λ (k : ℕ). Going k stream before old.held) (sym so.limit_is) so.going)) in (
+    let r : Refused limit (stream ++ piece) after error = subst (λ (k : ℕ). Refused k (stream ++ piece) after error) so.limit_is
+    (p stream (subst (λ (k : ℕ). Going k stream before old.held) (sym so.limit_is) so.going)) in (
       r.rest ++ following,
       record {
         whole = ap (λ (xs : List ℕ). xs ++ following) r.whole ∙ append_assoc (joined after) r.rest following;
@@ -239,7 +250,8 @@ stream_ends limit reader stream records so = record {
 }
 
 -- only one reading
-pub one_reading : (limit : ℕ) (stream : List ℕ) (records others : List (List ℕ)) (rest other_rest : List ℕ) (error other : FrameError) → Splits limit stream records rest error → Splits limit stream others other_rest other
+pub one_reading : (limit : ℕ) (stream : List ℕ) (records others : List (List ℕ)) (rest other_rest : List ℕ) (error other : FrameError) →
+    Splits limit stream records rest error → Splits limit stream others other_rest other
     → (records ≡ others) × (error ≡ other)
 one_reading limit stream [] [] rest other_rest error other a b =
     let same : ◌≡◌ {A = Result ℕ FrameError} (Err error) (Err other) = sym a.stops ∙ ap (checked limit) (sym a.whole ∙ b.whole) ∙ b.stops in
@@ -263,7 +275,8 @@ one_reading limit stream (first ∷ records) (one ∷ others) rest other_rest er
     let again = ap (checked limit) right ∙ found_again limit also.is_record.0 one (joined others ++ other_rest) also.is_record.1 also.within in
     let lengths : ◌≡◌ {A = Result ℕ FrameError} (Ok (length first)) (Ok (length one)) = sym found ∙ again in
     let size : length first ≡ length one = cc in
-    let same : first ≡ one = sym (take_at first (joined records ++ rest) (length first) refl) ∙ ap (take (length first)) (sym left ∙ right) ∙ take_at one (joined others ++ other_rest) (length first) (sym size) in
+    let same : first ≡ one = sym (take_at first (joined records ++ rest) (length first) refl) ∙ ap (take (length first)) (sym left ∙ right) ∙ take_at one
+    (joined others ++ other_rest) (length first) (sym size) in
     let behind : drop (length first) stream ≡ joined records ++ rest = ap (drop (length first)) left ∙ drop_at first (joined records ++ rest) (length first) refl in
     let also_behind : drop (length first) stream ≡ joined others ++ other_rest = ap (drop (length first)) right ∙ drop_at one (joined others ++ other_rest) (length first) (sym size) in
     let next = one_reading limit (drop (length first) stream) records others rest other_rest error other
@@ -272,13 +285,15 @@ one_reading limit stream (first ∷ records) (one ∷ others) rest other_rest er
     (ap (λ (x : List ℕ). x ∷ records) same ∙ ap (λ (xs : List (List ℕ)). one ∷ xs) next.0, next.1)
 
 -- what the whole answers, where a piece is refused
-pub refused_split : (limit : ℕ) (old new : Reader) (stream piece following whole : List ℕ) (before after : List (List ℕ)) (e : FrameError) → StreamSoFar limit old stream before → PassedPiece old new before after piece (Some e)
+pub refused_split : (limit : ℕ) (old new : Reader) (stream piece following whole : List ℕ) (before after : List (List ℕ)) (e : FrameError) →
+    StreamSoFar limit old stream before → PassedPiece old new before after piece (Some e)
     → whole ≡ (stream ++ piece) ++ following → (rest : List ℕ) × (error : FrameError) × Splits limit whole after rest error × (Some e ≡ refusal error)
 refused_split limit old new stream piece following whole before after e so p all =
     let s = stream_stops limit old new stream piece following before after e so p in
     (s.0, e, subst (λ (xs : List ℕ). Splits limit xs after s.0 e) (sym all) s.1, sym (ap (λ (b : Bool). cond b None (Some e)) s.2))
 
-pub refused_only : (limit : ℕ) (old new : Reader) (stream piece following whole : List ℕ) (before after others : List (List ℕ)) (e error : FrameError) (rest : List ℕ) → StreamSoFar limit old stream before → PassedPiece old new before after piece (Some e)
+pub refused_only : (limit : ℕ) (old new : Reader) (stream piece following whole : List ℕ) (before after others : List (List ℕ)) (e error : FrameError)
+    (rest : List ℕ) → StreamSoFar limit old stream before → PassedPiece old new before after piece (Some e)
     → whole ≡ (stream ++ piece) ++ following → Splits limit whole others rest error → (after ≡ others) × (Some e ≡ refusal error)
 refused_only limit old new stream piece following whole before after others e error rest so p all other =
     let s = refused_split limit old new stream piece following whole before after e so p all in
@@ -291,7 +306,8 @@ pub ended_split : (limit : ℕ) (reader : Reader) (stream whole : List ℕ) (rec
 ended_split limit reader stream whole records so all =
     (reader.held, Need so.waits.missing.0, subst (λ (xs : List ℕ). Splits limit xs records reader.held (Need so.waits.missing.0)) (sym all) (stream_ends limit reader stream records so), refl)
 
-pub ended_only : (limit : ℕ) (reader : Reader) (stream whole : List ℕ) (records others : List (List ℕ)) (error : FrameError) (rest : List ℕ) → StreamSoFar limit reader stream records → whole ≡ stream → Splits limit whole others rest error
+pub ended_only : (limit : ℕ) (reader : Reader) (stream whole : List ℕ) (records others : List (List ℕ)) (error : FrameError) (rest : List ℕ) →
+    StreamSoFar limit reader stream records → whole ≡ stream → Splits limit whole others rest error
     → (records ≡ others) × (◌≡◌ {A = Option FrameError} None (refusal error))
 ended_only limit reader stream whole records others error rest so all other =
     let s = ended_split limit reader stream whole records so all in
@@ -329,7 +345,8 @@ gets_on r new gone piece f sound state e (at_ok len h) =
           let longer = longer_of r.limit r.held piece gone len (missing r.limit r.held gone (whole_or_missing r gone state none)) h in
           omega arith;
       all = λ part_taken. let clash : true ≡ false = sym whole_is ∙ part_taken in absurd (cc);
-      whole = whole_is ∙ sym (ap (λ (x : Reader). is_some (frame_of x)) new_is ∙ ap (λ (x : Result ℕ FrameError). is_some (frame_by (take len (r.held ++ piece)) x)) (front_ok r.limit (r.held ++ piece) len h).1);
+      whole = whole_is ∙ sym (ap (λ (x : Reader). is_some (frame_of x)) new_is
+          ∙ ap (λ (x : Result ℕ FrameError). is_some (frame_by (take len (r.held ++ piece)) x)) (front_ok r.limit (r.held ++ piece) len h).1);
     }
 gets_on r new gone piece f sound state e (at_need k h) =
     let all = e ∙ fed_is r piece (Err (Need k)) sound h in

@@ -1,5 +1,6 @@
 -- What a reader holds while a piece is taken.
-use Rattle.std.proofs.Common.{◌≡◌, ℕ, ◌+◌, ◌-◌, ◌<◌, ◌≤◌, ◌^◌, inl, inr, Bool, true, false, cond, List, [], ◌++◌, length, take, drop, min, Option, None, Result, Ok, Err, refl, sym, ap, subst, ◌∙◌, arith, length-append, append_assoc, nat_cmp}
+use Rattle.std.proofs.Common.{◌≡◌, ℕ, ◌+◌, ◌-◌, ◌<◌, ◌≤◌, ◌^◌, inl, inr, Bool, true, false, cond, List, [], ◌++◌, length, take, drop, min, Option, None, Result}
+use Rattle.std.proofs.Common.{Ok, Err, refl, sym, ap, subst, ◌∙◌, arith, length-append, append_assoc, nat_cmp}
 use Rattle.std.specs.Prelude.{◌==◌, is_ok}
 use Rattle.std.specs.Ordering.{ord_min}
 use Rattle.std.proofs.lemmas.Bool.{eq-eqb, ne_eqb, cond-true, cond-false, cases_lt, cases_eq}
@@ -50,7 +51,8 @@ grown limit held more capacity capacity' missing count is e less room =
     }
 
 -- the missing bytes came, and the record is whole
-pub grown_whole : (limit : ℕ) (held more : List ℕ) (capacity capacity' missing count len : ℕ) → IsReader limit held capacity missing → length more ≡ count → 0 < count → count ≤ missing → missing - count ≡ 0 → capacity ≤ capacity'
+pub grown_whole : (limit : ℕ) (held more : List ℕ) (capacity capacity' missing count len : ℕ) → IsReader limit held capacity missing → length more ≡ count →
+    0 < count → count ≤ missing → missing - count ≡ 0 → capacity ≤ capacity'
     → checked limit (held ++ more) ≡ Ok len → IsReader limit (held ++ more) capacity' (missing - count)
 grown_whole limit held more capacity capacity' missing count len is e some fits all room h =
     let old = is.room in
@@ -204,7 +206,8 @@ second_end limit held piece front last rest w k known end split size (at_err err
     ∙ sym (fed_err limit held piece last rest error e no_need split)
 
 -- the second fill, behind a header that is whole
-second_fill : (limit : ℕ) (held piece front rest : List ℕ) (w k : ℕ) → checked limit front ≡ Err (Need k) → 128 ≤ length front → held ++ piece ≡ front ++ rest → length front ≡ length held + w → length piece ≡ w + length rest
+second_fill : (limit : ℕ) (held piece front rest : List ℕ) (w k : ℕ) → checked limit front ≡ Err (Need k) → 128 ≤ length front → held ++ piece ≡ front ++ rest →
+    length front ≡ length held + w → length piece ≡ w + length rest
     → after_second w (fill_result (holds limit front) rest) ≡ feed_result (holds limit held) piece
 second_fill limit held piece front rest w k h long split size all = elim (cases_lt (length rest) k) [
   | inl less ↦
@@ -226,7 +229,8 @@ second_fill limit held piece front rest w k h long split size all = elim (cases_
       ∙ second_end limit held piece front last (drop k rest) w k known end again long_last (cases (checked limit last))
 ]
 
-first_end : (limit : ℕ) (held piece front rest : List ℕ) (w : ℕ) → Reached limit front → held ++ piece ≡ front ++ rest → rest ≡ drop w piece → length front ≡ length held + w → length piece ≡ w + length rest
+first_end : (limit : ℕ) (held piece front rest : List ℕ) (w : ℕ) → Reached limit front → held ++ piece ≡ front ++ rest → rest ≡ drop w piece →
+    length front ≡ length held + w → length piece ≡ w + length rest
     → Cases (checked limit front) → after_first piece (fill_result_by (holds limit held) front w (checked limit front)) ≡ feed_result (holds limit held) piece
 first_end limit held piece front rest w end split behind size all (at_ok n e) =
     let len : n ≡ length front = end.whole n e in
@@ -280,7 +284,8 @@ two_fills limit held piece missing state = elim (cases_eq missing 0) [
 
 -- the same, from what the two fills answered
 pub feeds_both : (r s1 s2 : Reader) (piece rest : List ℕ) (first second : ℕ) (whole : Bool) → after_first piece (fill_result r piece) ≡ feed_result r piece
-    → s1 ≡ (fill_result r piece).0 → Ok first ≡ (fill_result r piece).1 → rest ≡ drop first piece → s2 ≡ (fill_result s1 rest).0 → Ok second ≡ (fill_result s1 rest).1 → whole ≡ is_ok (checked s2.limit s2.held)
+    → s1 ≡ (fill_result r piece).0 → Ok first ≡ (fill_result r piece).1 → rest ≡ drop first piece → s2 ≡ (fill_result s1 rest).0 →
+    Ok second ≡ (fill_result s1 rest).1 → whole ≡ is_ok (checked s2.limit s2.held)
     → ◌≡◌ {A = Reader × Result Fed FrameError} (s2, Ok (record { taken = first + second; whole = whole })) (feed_result r piece)
 feeds_both r s1 s2 piece rest first second whole two a b e c d w =
     let one : ◌≡◌ {A = Reader × Result ℕ FrameError} (s1, Ok first) (fill_result r piece) = ap (λ (x : Reader). (x, Ok first)) a ∙ ap (λ (x : Result ℕ FrameError). ((fill_result r piece).0, x)) b in
@@ -331,7 +336,8 @@ whole_for_all limit len bytes short h =
     passes (2 ^ 32 - 1) bytes wider ∙ ap (λ (n : ℕ). Ok n) p.1
 
 -- what is held is a whole record
-pub whole_of : (limit missing : ℕ) (held : List ℕ) → checked limit held ≡ cond (missing == 0) (Ok (length held)) (Err (Need missing)) → is_ok (checked limit held) ≡ true → checked limit held ≡ Ok (length held)
+pub whole_of : (limit missing : ℕ) (held : List ℕ) → checked limit held ≡ cond (missing == 0) (Ok (length held)) (Err (Need missing)) →
+    is_ok (checked limit held) ≡ true → checked limit held ≡ Ok (length held)
 whole_of limit missing held state ok = elim (cases_eq missing 0) [
   | inl none ↦ is_whole limit missing held state none
   | inr some ↦

@@ -19,7 +19,8 @@ is_misplaced-front bytes more first last index h =
     ap (λ (d : List ℕ). nat_lt (number_at d 0 4) first || nat_lt last (number_at d 0 4 + number_at d 4 4))
     (part-append_left bytes more (128 + 72 * index) 72 (omega arith))
 
-misplaced_from-front : (bytes more : List ℕ) (first last n index : ℕ) → 128 + 72 * (index + n) ≤ length bytes → misplaced_from (bytes ++ more) first last n index ≡ misplaced_from bytes first last n index
+misplaced_from-front : (bytes more : List ℕ) (first last n index : ℕ) → 128 + 72 * (index + n) ≤ length bytes → misplaced_from (bytes ++ more) first last n
+    index ≡ misplaced_from bytes first last n index
 misplaced_from-front bytes more first last zero index h = refl
 misplaced_from-front bytes more first last (suc n) index h =
     let here = is_misplaced-front bytes more first last index (omega arith) in
@@ -69,7 +70,18 @@ header_again bytes h k start end =
     let again = λ (at n : ℕ) (within : at + n ≤ 128). spelled-number_at bytes at n h (omega arith) in
     let first : part bytes 0 4 ≡ codes "CPER" = sym (again 0 4 (omega arith)) ∙ ap (spelled 4) start ∙ spelled_signature in
     let last : part bytes 6 4 ≡ spelled 4 (2 ^ 32 - 1) = sym (again 6 4 (omega arith)) ∙ ap (spelled 4) end in
-    rw (first, last, again 4 2 (omega arith), again 10 2 (omega arith), again 12 4 (omega arith), again 16 4 (omega arith), again 20 4 (omega arith), again 24 8 (omega arith), again 96 8 (omega arith), again 104 4 (omega arith)) refl
+    rw (
+      first,
+      last,
+      again 4 2 (omega arith),
+      again 10 2 (omega arith),
+      again 12 4 (omega arith),
+      again 16 4 (omega arith),
+      again 20 4 (omega arith),
+      again 24 8 (omega arith),
+      again 96 8 (omega arith),
+      again 104 4 (omega arith),
+    ) refl
 
 pub header_part : (bytes : List ℕ) → AreBytes bytes → 128 ≤ length bytes → number_at bytes 0 4 ≡ signature → number_at bytes 6 4 ≡ 2 ^ 32 - 1
     → joined (header (head_at bytes) (section_count bytes) (record_length bytes)) ≡ part bytes 0 128

@@ -131,7 +131,8 @@ partial_needs limit have s e n len bad p =
     header_decides limit have s e n len bad p.start p.end p.heads p.within
     ∙ cond-true (nat_lt have len) (Err (Need (len - have))) _ (lt-ltb have len p.less)
 
-complete_placed : (limit have s e n len : ℕ) (bad : Option ℕ) → s ≡ signature → e ≡ 2 ^ 32 - 1 → bodies_from n ≤ len → len ≤ limit → len ≤ have → head_verdict limit have s e n len bad ≡ length_if_placed len bad
+complete_placed : (limit have s e n len : ℕ) (bad : Option ℕ) → s ≡ signature → e ≡ 2 ^ 32 - 1 → bodies_from n ≤ len → len ≤ limit → len ≤ have →
+    head_verdict limit have s e n len bad ≡ length_if_placed len bad
 complete_placed limit have s e n len bad start end heads within there =
     header_decides limit have s e n len bad start end heads within
     ∙ cond-false (nat_lt have len) (Err (Need (len - have))) _ (le-ltb have len there)

@@ -104,7 +104,8 @@ goes_on before a b c head n given end section w more put =
     let first = bodies_from n in
     let value : SectionValue = record { head = section.head; offset = end; body = section.body } in
     let size = length-descriptor value put.head_fits in
-    let there : part b (128 + 72 * k) 72 ≡ joined (descriptor value) = ap (part b (128 + 72 * k)) (sym size) ∙ wrote_there a b (128 + 72 * k) (128 + 72 * k + 72) (joined (descriptor value)) put.descriptor_put in
+    let there : part b (128 + 72 * k) 72 ≡ joined (descriptor value) = ap (part b (128 + 72 * k)) (sym size) ∙ wrote_there a b (128 + 72 * k)
+    (128 + 72 * k + 72) (joined (descriptor value)) put.descriptor_put in
     let ab = subst (λ (m : ℕ). SameOutside (128 + 72 * k) m a b) size (wrote_others a b (128 + 72 * k) (128 + 72 * k + 72) (joined (descriptor value)) put.descriptor_put) in
     let bc = wrote_others b c end (end + length section.body) section.body put.body_put in
     let behind = w.behind in
@@ -142,7 +143,8 @@ goes_on before a b c head n given end section w more put =
       descriptors_are =
           ap (part c 128) (sizes k (length (given ++ section ∷ [])) (omega arith))
           ∙ sym (part-append c 128 (72 * k) 72)
-          ∙ ap (λ (xs : List ℕ). xs ++ part c (128 + 72 * k) 72) (part-before end (length section.body) 128 (72 * k) b c bc (omega arith) ∙ part-before (128 + 72 * k) 72 128 (72 * k) a b ab (omega arith) ∙ w.descriptors_are)
+          ∙ ap (λ (xs : List ℕ). xs ++ part c (128 + 72 * k) 72) (part-before end (length section.body) 128 (72 * k) b c bc (omega arith) ∙ part-before
+          (128 + 72 * k) 72 128 (72 * k) a b ab (omega arith) ∙ w.descriptors_are)
           ∙ ap (λ (xs : List ℕ). descriptors (sections_given first given) ++ xs) (part-before end (length section.body) (128 + 72 * k) 72 b c bc (omega arith) ∙ there)
           ∙ sym (descriptors-push (sections_given first given) value)
           ∙ ap descriptors (sym value_is);

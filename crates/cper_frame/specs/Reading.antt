@@ -26,7 +26,17 @@ head_at bytes = record {
 
 -- the fields at their places in a descriptor
 abbrev pub section_head_at : List ℕ → SectionHead
-section_head_at descriptor = record { revision = number_at descriptor 8 2; validation = number_at descriptor 10 1; reserved = number_at descriptor 11 1; flags = number_at descriptor 12 4; kind = part descriptor 16 16; fru = part descriptor 32 16; severity = number_at descriptor 48 4; fru_text = part descriptor 52 20 }
+section_head_at descriptor = record {
+  revision = number_at descriptor 8 2;
+  validation = number_at descriptor 10 1;
+  reserved = number_at descriptor 11 1;
+  flags =
+      number_at descriptor 12 4;
+  kind = part descriptor 16 16;
+  fru = part descriptor 32 16;
+  severity = number_at descriptor 48 4;
+  fru_text = part descriptor 52 20;
+}
 
 abbrev pub descriptor_at : List ℕ → ℕ → List ℕ
 descriptor_at bytes index = part bytes (128 + 72 * index) 72

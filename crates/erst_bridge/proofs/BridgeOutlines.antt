@@ -78,7 +78,8 @@ module _ (tells : Type 0) (client : ClientState) (budget : ℕ) where
   ]
 
   module _ (reads : ReadsAlike) (one other : MachineState) (equivalent : EquivalentMachines one other) (answer also : Answer) (left also_left : ℕ) (one_after other_after : MachineState) where
-    both_read : (id : ℕ) (bridge : BridgeState) → IsRead one id bridge answer left one_after → IsRead other id bridge also also_left other_after → EndAlike answer also left also_left one_after other_after
+    both_read : (id : ℕ) (bridge : BridgeState) → IsRead one id bridge answer left one_after → IsRead other id bridge also also_left other_after →
+        EndAlike answer also left also_left one_after other_after
     both_read id bridge first second =
         let both = reads one other first.event second.event one_after other_after equivalent first.turns second.turns in
         record {
@@ -90,7 +91,8 @@ module _ (tells : Type 0) (client : ClientState) (budget : ℕ) where
 
     module _ (writes : (bytes : List ℕ) → IsDoneAlike {A = Result (Unit {0}) ClientError} (λ first result left last. Writes (Allows tells) client bytes budget first result left last))
         (quiet : FailedNothing one one_after) (also_quiet : FailedNothing other other_after) where
-      both_held : (id : ℕ) (block : List ℕ) → IsOf one (Holds id block) answer left one_after → IsOf other (Holds id block) also also_left other_after → EndAlike answer also left also_left one_after other_after
+      both_held : (id : ℕ) (block : List ℕ) → IsOf one (Holds id block) answer left one_after → IsOf other (Holds id block) also also_left other_after →
+          EndAlike answer also left also_left one_after other_after
       both_held id block (inl a) (inl b) =
           let both = writes (bridged block id) one other a.result b.result left also_left one_after other_after equivalent a.writes quiet b.writes also_quiet in
           record {
@@ -112,7 +114,8 @@ module _ (tells : Type 0) (client : ClientState) (budget : ℕ) where
       by_bridge (Holds id block) a b = both_held id block a b
       by_bridge (Releases id) a b = both_read id (Releases id) a b
 
-      pub bridge_alike : (bridge : BridgeState) → BridgesMachine tells client budget one bridge answer.0 answer.1 left one_after → BridgesMachine tells client budget other bridge also.0 also.1 also_left other_after
+      pub bridge_alike : (bridge : BridgeState) → BridgesMachine tells client budget one bridge answer.0 answer.1 left one_after →
+          BridgesMachine tells client budget other bridge also.0 also.1 also_left other_after
           → EndAlike answer also left also_left one_after other_after
       bridge_alike bridge first second =
           by_bridge bridge (turn_is one bridge answer.0 answer.1 left one_after first) (turn_is other bridge also.0 also.1 also_left other_after second)

@@ -75,11 +75,12 @@ not_held n id (Releases k) block none e = absurd (cc e)
 -- a write that the client itself refuses
 write_refused : (tells : Type 0) (client : ClientState) (bytes : List ℕ) (budget : ℕ) (old : MachineState) (result : Result (Unit {0}) ClientError) (left : ℕ) (new : MachineState)
     → Writes (Allows tells) client bytes budget old result left new → (error : ClientError) → write_refusal bytes client.range ≡ Some error → (result ≡ Err error) × (new ≡ old)
-write_refused tells client bytes budget old result left new writes = elim writes as (λ result left new writes. (error : ClientError) → write_refusal bytes client.range ≡ Some error → (result ≡ Err error) × (new ≡ old)) [
-  | NotWritten why is ↦ λ error refused. (ap (λ (e : ClientError). Err e) (same_some why error (sym is ∙ refused)), refl)
-  | IsNotPut why last fits puts ↦ λ error refused. absurd (cc (fits, refused))
-  | IsAsked mid result left last fits puts sequence ↦ λ error refused. absurd (cc (fits, refused))
-]
+write_refused tells client bytes budget old result left new writes = elim writes as (λ result left new writes. (error : ClientError) →
+    write_refusal bytes client.range ≡ Some error → (result ≡ Err error) × (new ≡ old)) [
+      | NotWritten why is ↦ λ error refused. (ap (λ (e : ClientError). Err e) (same_some why error (sym is ∙ refused)), refl)
+      | IsNotPut why last fits puts ↦ λ error refused. absurd (cc (fits, refused))
+      | IsAsked mid result left last fits puts sequence ↦ λ error refused. absurd (cc (fits, refused))
+    ]
 
 -- the map's refusals, and a failure of the flash, are none of a length
 map_too_long : (refusal : Refusal) (error : ClientError) (len range : ℕ) → IsErrorOf refusal error → error ≡ TooLong len range → ⊥
@@ -99,7 +100,8 @@ command_too_long first last id command requests budget result left len range mad
   | IsStopped pauses leaves few short ↦ λ is. absurd (cc is)
 ]
 
-answer_too_long : (bytes : List ℕ) (budget : ℕ) (old : MachineState) (result : Result (Unit {0}) ClientError) (left : ℕ) (new : MachineState) (len range : ℕ) → write_refusal bytes (reach_in old.device) ≡ None
+answer_too_long : (bytes : List ℕ) (budget : ℕ) (old : MachineState) (result : Result (Unit {0}) ClientError) (left : ℕ) (new : MachineState) (len range : ℕ) →
+    write_refusal bytes (reach_in old.device) ≡ None
     → WriteAnswered bytes budget old result left new → result ≡ Err (TooLong len range) → ⊥
 answer_too_long bytes budget old result left new len range fits answered = elim answered as (λ result left new answered. result ≡ Err (TooLong len range) → ⊥) [
   | IsNoRecord error refused ↦ λ is. absurd (cc (fits, refused))
@@ -113,7 +115,9 @@ module _ (tells : Type 0) (client : ClientState) (budget : ℕ) (old : MachineSt
   too_long id block held small short long =
       elim turn as (λ bridge event after turn. bridge ≡ Holds id block → (event ≡ Kept (TooLong (200 + length block) client.range)) × (after.station ≡ old)) [
         | TurnsReader n bridge event new none reads ↦ λ held. absurd (not_held n id bridge block none held)
-        | Stores n other left new less writes ↦ λ held. absurd (cc (write_refused tells client (bridged other n) budget old (Ok tt) left new writes (TooLong (200 + length block) client.range) (refused n other held)).0)
+        | Stores n other left new less writes ↦ λ held. absurd
+            (cc (write_refused tells client (bridged other n) budget old (Ok tt) left new writes (TooLong (200 + length block) client.range)
+            (refused n other held)).0)
         | Keeps n other error left new less writes ↦ λ held.
             let is = write_refused tells client (bridged other n) budget old (Err error) left new writes (TooLong (200 + length block) client.range) (refused n other held) in
             (ap (λ (e : ClientError). Kept e) (same_error error (TooLong (200 + length block) client.range) is.0), is.1)

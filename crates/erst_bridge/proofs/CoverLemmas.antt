@@ -53,9 +53,11 @@ same_records old new device = ap (λ (d : DeviceState). records_of (record old {
 
 module _ (tells : Type 0) (run : OwnProgramsRun tells) (told : tells) (client : ClientState) (budget : ℕ) where
   bridge_covered : (old : MachineState) → client ≡ own_client old → IsMachine old → (bridge : BridgeState) (event : BridgeEvent) (next : BridgeState) (left : ℕ) (new : MachineState) (m : Machine)
-      → BridgesMachine tells client budget old bridge event next left new → StandsInStep bridge old m → IsCovered bridge m (records_of old) → IsCovered next (handover_after (OfBridge event) m) (records_of new)
+      → BridgesMachine tells client budget old bridge event next left new → StandsInStep bridge old m → IsCovered bridge m (records_of old) →
+      IsCovered next (handover_after (OfBridge event) m) (records_of new)
   bridge_covered old own machine bridge event next left new m turn paired covered =
-      elim turn as (λ bridge event after turn. StandsInStep bridge old m → IsCovered bridge m (records_of old) → IsCovered after.bridge (handover_after (OfBridge event) m) (records_of after.station)) [
+      elim turn as (λ bridge event after turn. StandsInStep bridge old m → IsCovered bridge m (records_of old) →
+      IsCovered after.bridge (handover_after (OfBridge event) m) (records_of after.station)) [
         | TurnsReader id bridge event new none reads ↦ λ paired covered.
             subst (λ (e : Event). IsCovered (after_reader e id (last_of new) bridge) (turned Reader m).1 (records_of new)) (sym (reads.turned m paired.stands).event_is)
             (subst (λ (r : Records). IsCovered (after_reader (turned Reader m).0 id (last_of new) bridge) (turned Reader m).1 r) (sym (same_records old new reads.device))

@@ -39,12 +39,13 @@ same_told old made new same =
 
 command_crash : (first last : MachineState) (id : ℕ) (command : Command) (requests : List Request) (budget : ℕ) (result : Result (Unit {0}) ClientError) (left : ℕ)
     → ChangeCommand first last id command requests budget result left → KeepsOrMakes first.device.store last.device.store (after first.device.store.layout command (stored first.device.store))
-command_crash first last id command requests budget result left made = elim made as (λ result left made. KeepsOrMakes first.device.store last.device.store (after first.device.store.layout command (stored first.device.store))) [
-  | IsTaken pauses left taken now made spent ↦ made.leaves.crash
-  | IsRefused refusal error left refused is now made spent ↦ made.leaves.crash
-  | IsFailed pauses left usable rose either leaves few spent ↦ leaves.crash
-  | IsStopped pauses leaves few short ↦ leaves.crash
-]
+command_crash first last id command requests budget result left made = elim made as (λ result left made. KeepsOrMakes first.device.store last.device.store
+    (after first.device.store.layout command (stored first.device.store))) [
+      | IsTaken pauses left taken now made spent ↦ made.leaves.crash
+      | IsRefused refusal error left refused is now made spent ↦ made.leaves.crash
+      | IsFailed pauses left usable rose either leaves few spent ↦ leaves.crash
+      | IsStopped pauses leaves few short ↦ leaves.crash
+    ]
 
 pub after_write-fits : (old : MachineState) (bytes : List ℕ) → write_refusal bytes (reach_in old.device) ≡ None
     → after_write old bytes ≡ after old.device.store.layout (Write (id_of bytes) (marked bytes)) (records_of old)

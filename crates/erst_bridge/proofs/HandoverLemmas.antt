@@ -63,7 +63,8 @@ pub firmware_come : (bridge : BridgeState) (m : Machine) → SameToCome bridge m
 firmware_come bridge m = let same = firmware_same m m.situation in come_same bridge m (turned Firmware m).1 same.taken same.blocks
 
 -- the block that is taken is the first one to come
-took : (id : ℕ) (bridge : BridgeState) (m new : Machine) → HoldsNone id bridge → IsInStep bridge m → m.taken ≡ m.acknowledged → m.acknowledged < length m.blocks → new.taken ≡ m.taken + 1 → new.blocks ≡ m.blocks
+took : (id : ℕ) (bridge : BridgeState) (m new : Machine) → HoldsNone id bridge → IsInStep bridge m → m.taken ≡ m.acknowledged → m.acknowledged < length m.blocks
+    → new.taken ≡ m.taken + 1 → new.blocks ≡ m.blocks
     → (block : List ℕ) → block ≡ last_taken new → SameToCome bridge m (Holds id block) new
 took id Off m new none step free there taken blocks block last = absurd none
 took id (Holds n other) m new none step free there taken blocks block last = absurd none

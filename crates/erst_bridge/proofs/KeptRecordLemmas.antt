@@ -33,7 +33,8 @@ get_put stored n record_now q = get-insert nat_cmp_total stored n record_now q �
     by_numbers x y = grind (arith, nat_tests)
 
 -- a write of another identifier leaves a record
-pub stored_after : (layout : Layout) (n : ℕ) (bytes : List ℕ) (stored : Records) (id : ℕ) (there : List ℕ) → id ≢ n → IsStoredAs id there stored → IsStoredAs id there (after layout (Write n bytes) stored)
+pub stored_after : (layout : Layout) (n : ℕ) (bytes : List ℕ) (stored : Records) (id : ℕ) (there : List ℕ) → id ≢ n → IsStoredAs id there stored →
+    IsStoredAs id there (after layout (Write n bytes) stored)
 unfolding after made_by
 stored_after layout n bytes stored id there other is = by_test (is_none (refusal_of layout (Write n bytes) stored))
   where
@@ -42,7 +43,8 @@ stored_after layout n bytes stored id there other is = by_test (is_none (refusal
         (is.0, get_put stored n (bytes, next_generation (get stored n)) id ∙ ap (λ (b : Bool). if b then Some (bytes, next_generation (get stored n)) else get stored id) (ne_eqb id n other) ∙ is.1)
     by_test false = is
 
-pub other_stays : (old : MachineState) (block : List ℕ) (n id : ℕ) (there : List ℕ) → n < 2 ^ 64 → id ≢ n → IsStoredAs id there (records_of old) → IsStoredAs id there (after_write old (bridged block n))
+pub other_stays : (old : MachineState) (block : List ℕ) (n id : ℕ) (there : List ℕ) → n < 2 ^ 64 → id ≢ n → IsStoredAs id there (records_of old) →
+    IsStoredAs id there (after_write old (bridged block n))
 other_stays old block n id there fits apart is = by_test (is_none (write_refusal (bridged block n) (reach_in old.device)))
   where
     other : id ≢ id_of (bridged block n)
@@ -70,10 +72,12 @@ command_put P bytes old result left last budget made =
     ]
 
 -- a write that was answered Ok put the record
-answer_put : (P : Records → Type 0) (bytes : List ℕ) (budget : ℕ) (old : MachineState) (result : Result (Unit {0}) ClientError) (left : ℕ) (new : MachineState) → WriteAnswered bytes budget old result left new → result ≡ Ok tt
+answer_put : (P : Records → Type 0) (bytes : List ℕ) (budget : ℕ) (old : MachineState) (result : Result (Unit {0}) ClientError) (left : ℕ) (new : MachineState)
+    → WriteAnswered bytes budget old result left new → result ≡ Ok tt
     → P (insert (records_of old) (id_of bytes) (marked bytes, next_generation (get (records_of old) (id_of bytes)))) → P (records_of new)
 answer_put P bytes budget old result left new answered =
-    elim answered as (λ result left new answered. result ≡ Ok tt → P (insert (records_of old) (id_of bytes) (marked bytes, next_generation (get (records_of old) (id_of bytes)))) → P (records_of new)) [
+    elim answered as (λ result left new answered. result ≡ Ok tt →
+    P (insert (records_of old) (id_of bytes) (marked bytes, next_generation (get (records_of old) (id_of bytes)))) → P (records_of new)) [
       | IsNoRecord error refused ↦ λ ok. absurd (cc ok)
       | IsWritten result left last fits made ↦ λ ok. command_put P bytes old result left last budget made ok
     ]

@@ -44,7 +44,8 @@ put_twice true x y = refl
 put_twice false x y = refl
 
 -- the record of a held block is put, whether it was there or not
-put_agrees : (n : ℕ) (block : List ℕ) (contents : Contents) (old new : Records) → Agrees (Holds n block) contents old → HasBytes (with_block n block (bytes_in old)) new → HasBytes (with_block n block contents) new
+put_agrees : (n : ℕ) (block : List ℕ) (contents : Contents) (old new : Records) → Agrees (Holds n block) contents old →
+    HasBytes (with_block n block (bytes_in old)) new → HasBytes (with_block n block contents) new
 put_agrees n block contents old new (inl same) put = λ q. put q ∙ ap (λ (o : Option (List ℕ)). if q == n then Some (stored_record block n) else o) (same q)
 put_agrees n block contents old new (inr there) put =
     λ q. put q ∙ ap (λ (o : Option (List ℕ)). if q == n then Some (stored_record block n) else o) (there q) ∙ put_twice (q == n) (Some (stored_record block n)) (contents q)
@@ -110,11 +111,13 @@ module _ (tells : Type 0) (run : OwnProgramsRun tells) (told : tells) (client : 
         | inr made ↦ subst (λ (r : Records). Agrees (Holds n block) contents r) (sym made) (turn_agrees (Holds n block) old (OfBridge (Kept error)) (Holds n block) new contents is agrees)
       ]
 
-  bridge_leads : (old : MachineState) → client ≡ own_client old → IsMachine old → (bridge : BridgeState) (event : BridgeEvent) (next : BridgeState) (left : ℕ) (new : MachineState) (m : Machine) (contents : Contents)
+  bridge_leads : (old : MachineState) → client ≡ own_client old → IsMachine old → (bridge : BridgeState) (event : BridgeEvent) (next : BridgeState) (left : ℕ)
+      (new : MachineState) (m : Machine) (contents : Contents)
       → BridgesMachine tells client budget old bridge event next left new → StandsInStep bridge old m → Agrees bridge contents (records_of old)
       → LeadsTo bridge m contents next (handover_after (OfBridge event) m) new
   bridge_leads old own machine bridge event next left new m contents turn paired agrees =
-      elim turn as (λ bridge event after turn. StandsInStep bridge old m → Agrees bridge contents (records_of old) → LeadsTo bridge m contents after.bridge (handover_after (OfBridge event) m) after.station) [
+      elim turn as (λ bridge event after turn. StandsInStep bridge old m → Agrees bridge contents (records_of old) → LeadsTo bridge m contents after.bridge
+      (handover_after (OfBridge event) m) after.station) [
         | TurnsReader id bridge event new none reads ↦ λ paired agrees.
             let t = reads.turned m paired.stands in
             let block = last_of new in
@@ -149,7 +152,8 @@ module _ (tells : Type 0) (run : OwnProgramsRun tells) (told : tells) (client : 
       })
   turn_leads bridge old (OfBridge event) next new m contents own machine is paired agrees = bridge_leads old own machine bridge event next is.0 new m contents is.1 paired agrees
 
-  shown_prefix : (bridge : BridgeState) (first : MachineState) (steps : List Step) (next : BridgeState) (last : MachineState) (m : Machine) (contents : Contents) → client ≡ own_client first → IsMachine first
+  shown_prefix : (bridge : BridgeState) (first : MachineState) (steps : List Step) (next : BridgeState) (last : MachineState) (m : Machine)
+      (contents : Contents) → client ≡ own_client first → IsMachine first
       → AreTurns tells client budget bridge first steps next last → StandsInStep bridge first m → Agrees bridge contents (records_of first)
       → (s : ℕ) (shown : Records) → ShowsTurns s bridge first steps shown → HasPrefix bridge m contents shown
   shown_prefix bridge first [] next last m contents own machine are paired agrees s shown shows =

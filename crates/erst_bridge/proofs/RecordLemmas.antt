@@ -1,5 +1,6 @@
 -- The record of a block, as the writer makes it and as a reader finds it.
-use Rattle.std.proofs.Common.{◌≡◌, ◌∙◌, ℕ, ◌+◌, ◌-◌, ◌^◌, ◌<◌, ◌≤◌, Bool, true, false, lit<, List, [], ◌∷◌, ◌++◌, length, take, drop, get_or, Ok, refl, sym, ap, subst, arith, length-append, append_assoc}
+use Rattle.std.proofs.Common.{◌≡◌, ◌∙◌, ℕ, ◌+◌, ◌-◌, ◌^◌, ◌<◌, ◌≤◌, Bool, true, false, lit<, List, [], ◌∷◌, ◌++◌, length, take, drop, get_or, Ok, refl, sym, ap}
+use Rattle.std.proofs.Common.{subst, arith, length-append, append_assoc}
 use Rattle.std.specs.Prelude.{nat_lt, if◌then◌else◌}
 use Rattle.std.proofs.lemmas.Bool.Decides.{nat_tests}
 use Rattle.std.proofs.lemmas.List.{append-nil, length-take-le}
@@ -150,7 +151,8 @@ name block id small =
 
 -- what the writer left at the front of a buffer
 pub made : (block : List ℕ) (id : ℕ) (before now : List ℕ) (size : ℕ) (head : RecordHead) (section : SectionHead) → id < 2 ^ 64 → size ≡ 200 + length block → size ≤ length now
-    → head ≡ bridged_head block id → section ≡ bridged_section block → IsWritten (written_record head ((record { head = section; body = block }) ∷ [])) size before now → take size now ≡ bridged block id
+    → head ≡ bridged_head block id → section ≡ bridged_section block → IsWritten (written_record head ((record { head = section; body = block }) ∷ [])) size
+    before now → take size now ≡ bridged block id
 made block id before now size head section small size_is room head_is section_is written =
     let same : IsRecord (value_of block id) (take size now) =
     subst (λ (h : RecordHead). IsRecord (written_record h (given block ∷ [])) (take size now)) head_is

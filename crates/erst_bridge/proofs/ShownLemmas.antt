@@ -73,7 +73,8 @@ module _ (tells : Type 0) (client : ClientState) (budget : ℕ) where
 
   module _ (run : OwnProgramsRun tells) (told : tells) where
     pub turns_show : (bridge : BridgeState) (first : MachineState) (steps : List Step) (next : BridgeState) (last : MachineState) → client ≡ own_client first → IsMachine first
-        → AreTurns tells client budget bridge first steps next last → (s : ℕ) (image : List ℕ) → changes_of first ≤ s → CrashImage (told_of last) s image → ShowsTurns s bridge first steps (shown_by first image)
+        → AreTurns tells client budget bridge first steps next last → (s : ℕ) (image : List ℕ) → changes_of first ≤ s → CrashImage (told_of last) s image →
+        ShowsTurns s bridge first steps (shown_by first image)
     turns_show bridge first [] next last own machine are s image from crash =
         ap (shown_by first) (CrashImage-now (told_of first) s image from (subst (λ (m : MachineState). CrashImage (told_of m) s image) are.1 crash))
     turns_show bridge first (step ∷ rest) next last own machine are s image from crash =
@@ -112,7 +113,8 @@ module _ (tells : Type 0) (client : ClientState) (budget : ℕ) where
           ]
         ]
 
-    pub crash_stays : (bridge : BridgeState) (first : MachineState) (steps : List Step) (next : BridgeState) (last : MachineState) (id : ℕ) (bytes : List ℕ) → client ≡ own_client first → IsMachine first
+    pub crash_stays : (bridge : BridgeState) (first : MachineState) (steps : List Step) (next : BridgeState) (last : MachineState) (id : ℕ) (bytes : List ℕ) →
+        client ≡ own_client first → IsMachine first
         → AreTurns tells client budget bridge first steps next last → IsBeyond id bridge → IsStoredAs id bytes (records_of first)
         → (s : ℕ) (image : List ℕ) → changes_of first ≤ s → CrashImage (told_of last) s image → IsStoredAs id bytes (shown_by first image)
     crash_stays bridge first steps next last id bytes own machine are beyond there s image from crash =

@@ -29,7 +29,8 @@ EndsAlike turn also next also_next one_after other_after = (turn ≡ also) × (n
 
 module _ (tells : Type 0) (client : ClientState) (budget : ℕ) where
   module _ (bridges : (bridge : BridgeState) → IsDoneAlike {A = BridgeEvent × BridgeState} (λ first answer left last. BridgesMachine tells client budget first bridge answer.0 answer.1 left last))
-      (fills : (one other : MachineState) (event also : Event) (one_after other_after : MachineState) → EquivalentMachines one other → Turns Firmware one event one_after → Turns Firmware other also other_after
+      (fills : (one other : MachineState) (event also : Event) (one_after other_after : MachineState) → EquivalentMachines one other →
+      Turns Firmware one event one_after → Turns Firmware other also other_after
       → (event ≡ also) × EquivalentMachines one_after other_after) where
     pub turn_alike : (bridge : BridgeState) (one other : MachineState) (turn also : Turn) (next also_next : BridgeState) (one_after other_after : MachineState)
         → EquivalentMachines one other → side_in turn ≡ side_in also → IsTurn tells client budget bridge one turn next one_after → FailedNothing one one_after
@@ -49,7 +50,8 @@ module _ (tells : Type 0) (client : ClientState) (budget : ℕ) where
     grows : (bridge : BridgeState) (old : MachineState) (turn : Turn) (next : BridgeState) (new : MachineState) → IsTurn tells client budget bridge old turn next new → faults_of old ≤ faults_of new
     grows bridge old turn next new is = (turn_goes_on tells client budget told bridge old turn next new is).1.never_falls
 
-    all_grow : (bridge : BridgeState) (first : MachineState) (steps : List Step) (next : BridgeState) (last : MachineState) → AreTurns tells client budget bridge first steps next last → faults_of first ≤ faults_of last
+    all_grow : (bridge : BridgeState) (first : MachineState) (steps : List Step) (next : BridgeState) (last : MachineState) →
+        AreTurns tells client budget bridge first steps next last → faults_of first ≤ faults_of last
     all_grow bridge first steps next last are = (turns_go_on tells client budget told bridge first steps next last are).1.never_falls
 
     pub steps_alike : (steps others : List Step) (bridge : BridgeState) (one other : MachineState) (next also_next : BridgeState) (one_after other_after : MachineState)
@@ -79,7 +81,8 @@ module _ (tells : Type 0) (client : ClientState) (budget : ℕ) where
     steps_alike (step ∷ rest) [] bridge one other next also_next one_after other_after equivalent same first quiet second also_quiet = absurd (cc same)
 
 -- what is told of turns by their outlines is the same
-pub told_alike : {A : Type 0} (told : Step → A) (seen : StepOutline → A) → ((step : Step) → told step ≡ seen (step_outline step)) → (steps others : List Step) → EquivalentSteps steps others → map told steps ≡ map told others
+pub told_alike : {A : Type 0} (told : Step → A) (seen : StepOutline → A) → ((step : Step) → told step ≡ seen (step_outline step)) → (steps others : List Step) →
+    EquivalentSteps steps others → map told steps ≡ map told others
 told_alike {A} told seen is steps others equivalent = by_outlines steps ∙ ap (λ (os : List StepOutline). map seen os) equivalent ∙ sym (by_outlines others)
   where
     by_outlines : (steps : List Step) → map told steps ≡ map seen (map step_outline steps)
@@ -87,7 +90,9 @@ told_alike {A} told seen is steps others equivalent = by_outlines steps ∙ ap (
     by_outlines (step ∷ rest) = ap (λ (x : A). x ∷ map told rest) (is step) ∙ ap (λ (xs : List A). seen (step_outline step) ∷ xs) (by_outlines rest)
 
 pub made_alike : (steps others : List Step) → EquivalentSteps steps others → made_by steps ≡ made_by others
-made_alike steps others equivalent = as_map steps ∙ told_alike one_made (λ outline. record { turn = told_turn outline.turn; step = outline.machine.device.store.steps }) (λ step. refl) steps others equivalent ∙ sym (as_map others)
+made_alike steps others equivalent =
+    as_map steps ∙ told_alike one_made (λ outline. record { turn = told_turn outline.turn; step = outline.machine.device.store.steps }) (λ step. refl) steps
+    others equivalent ∙ sym (as_map others)
   where
     one_made : Step → MadeTurn
     one_made step = record { turn = told_turn step.turn; step = step.machine.device.store.flash.steps }

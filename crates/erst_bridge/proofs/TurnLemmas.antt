@@ -43,7 +43,8 @@ module _ {S W : Type 0} (rules : StationRules S W) (asker : Asker) (old : S) whe
       subst (λ (b : BridgeState). Bridges rules asker old b event (record { bridge = next; left = left; station = new })) is
       (subst (λ (b : BridgeState). Bridges rules asker old from event (record { bridge = b; left = left; station = new })) leads turn)
 
-  pub stays_on : (bridge : BridgeState) (event : BridgeEvent) (next : BridgeState) (left : ℕ) (new : S) → Bridges rules asker old bridge event (record { bridge = next; left = left; station = new }) → next ≡ Off → ⊥
+  pub stays_on : (bridge : BridgeState) (event : BridgeEvent) (next : BridgeState) (left : ℕ) (new : S) → Bridges rules asker old bridge event
+      (record { bridge = next; left = left; station = new }) → next ≡ Off → ⊥
   stays_on bridge event next left new turn = elim turn as (λ bridge event after turn. after.bridge ≡ Off → ⊥) [
     | TurnsReader id bridge event new none read ↦ reader_cases (λ b. b ≡ Off → ⊥) event id (rules.last new) bridge (λ e. absurd (cc e)) (λ e. absurd (cc e)) (is_on id bridge none)
     | Stores id block left new small writes ↦ λ e. absurd (cc e)

@@ -41,7 +41,8 @@ module _ (tells : Type 0) (client : ClientState) (budget : ℕ) where
   pub none_made : (bridge : BridgeState) (first : MachineState) → MakesTurns tells (asker_of client budget) (bridged_machine bridge first) [] [] (bridged_machine bridge first)
   none_made bridge first = record { turns = []; are_turns = (refl, refl); sides_are = refl; made_is = refl; counted = λ _. tt }
 
-  pub one_more : (bridge : BridgeState) (first : MachineState) (sides : List Side) (i : ℕ) (made made_now : List MadeTurn) (mid : BridgeState) (machine : MachineState) (turn : SideTurn) (step : ℕ) (next : BridgeState) (new : MachineState)
+  pub one_more : (bridge : BridgeState) (first : MachineState) (sides : List Side) (i : ℕ) (made made_now : List MadeTurn) (mid : BridgeState)
+      (machine : MachineState) (turn : SideTurn) (step : ℕ) (next : BridgeState) (new : MachineState)
       → i < length sides → MakesTurns tells (asker_of client budget) (bridged_machine bridge first) (take i sides) made (bridged_machine mid machine)
       → IsTurn tells client budget mid machine (turn_of turn) next new → side_in (turn_of turn) ≡ get_or sides i Firmware
       → (tells → changes_of new ≡ step) → step ≡ new.device.store.flash.steps → made_now ≡ made ++ (record { turn = turn; step = step }) ∷ []
@@ -51,7 +52,8 @@ module _ (tells : Type 0) (client : ClientState) (budget : ℕ) where
       record {
         turns = so.turns ++ last ∷ [];
         are_turns = turns_more bridge first so.turns mid machine (turn_of turn) next new so.are_turns is;
-        sides_are = sides_more so.turns last ∙ ap (λ (xs : List Side). xs ++ side_in (turn_of turn) ∷ []) so.sides_are ∙ ap (λ (s : Side). take i sides ++ s ∷ []) side ∙ sym (take_more sides i Firmware within);
+        sides_are = sides_more so.turns last ∙ ap (λ (xs : List Side). xs ++ side_in (turn_of turn) ∷ []) so.sides_are
+            ∙ ap (λ (s : Side). take i sides ++ s ∷ []) side ∙ sym (take_more sides i Firmware within);
         made_is = pushed ∙ ap (λ (xs : List MadeTurn). xs ++ (record { turn = turn; step = step }) ∷ []) so.made_is
             ∙ ap (λ (n : ℕ). made_by so.turns ++ (record { turn = turn; step = n }) ∷ []) step_is
             ∙ ap (λ (t : SideTurn). made_by so.turns ++ (record { turn = t; step = new.device.store.flash.steps }) ∷ []) (sym (told_again turn))

@@ -41,8 +41,14 @@ timings_asked allows entries budget old result left last asks =
     elim asks as (λ result left last asks. TimingsAsked allows entries (length (entries_of (code_of GetExecuteOperationTimings) entries)) budget old result left last) [
       | NoTimings none ↦
           ([], (subst (λ (r : List Request). Asks allows entries r budget old (Ok []) budget old) (none_asked count none) (NoneLeft budget old), refl))
-      | HasTimings answer left last some run ↦
-          (answer ∷ [], (subst (λ (r : List Request). Asks allows entries r budget old (Ok (answer ∷ [])) left last) (one_asked count some) (Answered timings_one [] budget old answer left last [] left last run (NoneLeft left last)), refl))
+      | HasTimings answer left last some run ↦ (
+        answer ∷ [],
+        (
+          subst (λ (r : List Request). Asks allows entries r budget old (Ok (answer ∷ [])) left last) (one_asked count some)
+              (Answered timings_one [] budget old answer left last [] left last run (NoneLeft left last)),
+          refl,
+        ),
+      )
       | TimingsStop stop left last some run ↦
           subst (λ (r : List Request). Asks allows entries r budget old (Err stop) left last) (one_asked count some) (StopsHere timings_one [] budget old stop left last run)
     ]
@@ -53,7 +59,8 @@ pub found_attached : (erst : Erst) (address len attributes : ℕ) (timings : Opt
 found_attached erst address len attributes timings answers is = go (not (bit_and attributes 2 == 0)) (nat_lt len 128) where
   go : (b d : Bool) →
       client_result erst (cond b (Err (NonVolatile attributes)) (cond d (Err (NoRange len)) (Ok (record { address = address; len = len; timings = timings }))))
-      ≡ cond {A = Result ClientState AttachError} b (Err (NonVolatile attributes)) (cond d (Err (NoRange len)) (Ok (record { table = erst; address = address; range = len; timings = timings_of (slice_get answers 0) })))
+      ≡ cond {A = Result ClientState AttachError} b (Err (NonVolatile attributes))
+      (cond d (Err (NoRange len)) (Ok (record { table = erst; address = address; range = len; timings = timings_of (slice_get answers 0) })))
   go true d = refl
   go false true = refl
   go false false = ap (λ (t : Option (ℕ × ℕ)). answer_of t) is where

@@ -51,7 +51,8 @@ abbrev PaidBy : ℕ → Configuration → ℕ → Option (Result ℕ RunStop) �
 PaidBy n c left None after = after < left
 PaidBy n c left (Some answer) after = paid n (Ended answer) + 4 * after ≤ paid n (Ready c) + 4 * left
 
-paid_turn : (program : Listed) (given : ℕ) (c : Configuration) (left : ℕ) (end : Option (Result ℕ RunStop)) (after : ℕ) → Turns program given c left end after → PaidBy (length program.entries) c left end after
+paid_turn : (program : Listed) (given : ℕ) (c : Configuration) (left : ℕ) (end : Option (Result ℕ RunStop)) (after : ℕ) → Turns program given c left end after →
+    PaidBy (length program.entries) c left end after
 paid_turn program given c left end after turns = elim turns as (λ left end after turns. PaidBy (length program.entries) c left end after) [
   | IsOver left over ↦ omega (arith, some_paid (length program.entries) c.place over)
   | IsUnpaid within ↦ omega arith
@@ -84,7 +85,8 @@ first_paid program full =
     elim (length program.entries == 0) as (λ (b : Bool). (length program.entries == 0) ≡ b →
     paid (length program.entries) (if b && not (may_be_empty program.action) then Ended (Err (NoAction program.action)) else Ready begin) ≡ 0) [
       | true ↦ λ none.
-          elim (may_be_empty program.action) as (λ (b : Bool). may_be_empty program.action ≡ b → paid (length program.entries) (if true && not b then Ended (Err (NoAction program.action)) else Ready begin) ≡ 0)
+          elim (may_be_empty program.action) as (λ (b : Bool). may_be_empty program.action ≡ b →
+          paid (length program.entries) (if true && not b then Ended (Err (NoAction program.action)) else Ready begin) ≡ 0)
           [ true ↦ λ may. absurd (cc (may, full)) | false ↦ λ may_not. refl ] refl
       | false ↦ λ some. begun_paid (length program.entries) some
     ] refl
@@ -122,7 +124,8 @@ of_checked entries command timings waited number left =
     ]
 
 -- the end of a run does not raise it
-turns_fall : (entries : List Entry) (command : Command) (timings : Option (ℕ × ℕ)) (stage : Stage) (request : Request) (answer : Result ℕ RunStop) (left kept : ℕ) → request_for command stage ≡ Some request →
+turns_fall : (entries : List Entry) (command : Command) (timings : Option (ℕ × ℕ)) (stage : Stage) (request : Request) (answer : Result ℕ RunStop)
+    (left kept : ℕ) → request_for command stage ≡ Some request →
     bound_of entries (entered entries command (turned command timings stage answer) (steps_after stage kept left)) ≤ bound_in (checks entries) stage (Ended answer) left kept
 turns_fall entries command timings (Requesting part) request (Ok n) left kept is = omega (arith, of_asked entries command (next_part command part) left)
 turns_fall entries command timings (Requesting part) request (Err stop) left kept is = omega (arith, of_ending entries command (Err (Stopped stop)) left)
@@ -136,7 +139,8 @@ turns_fall entries command timings (Ending (Ok done)) request (Err stop) left ke
 turns_fall entries command timings (Ending (Err error)) request (Err stop) left kept is = omega arith
 turns_fall entries command timings (Done result) request answer left kept is = absurd (none-some request is)
 
-comes_of : (entries : List Entry) (request mine : Request) (state : RunState) (left : ℕ) (later : RunState) (rest : ℕ) → Some mine ≡ Some request → Comes (program_for entries request) request.given state left later rest →
+comes_of : (entries : List Entry) (request mine : Request) (state : RunState) (left : ℕ) (later : RunState) (rest : ℕ) → Some mine ≡ Some request →
+    Comes (program_for entries request) request.given state left later rest →
     Comes (program_for entries mine) mine.given state left later rest
 comes_of entries request mine state left later rest same comes =
     subst (λ (r : Request). Comes (program_for entries r) r.given state left later rest) (sym (same_Some _ _ same)) comes
@@ -146,7 +150,11 @@ runs_fall : (entries : List Entry) (command : Command) (stage : Stage) (request 
     Comes (program_for entries request) request.given state left later rest → bound_in (checks entries) stage later rest kept ≤ bound_in (checks entries) stage state left kept
 runs_fall entries command (Requesting part) request state left kept later rest is comes = omega (arith, bound_comes (program_for entries request) request.given state left later rest comes)
 runs_fall entries command (Checking waited) request state left kept later rest is comes =
-    omega (arith, paid_comes (program_of (code_of CheckBusyStatus) entries) 0 state left later rest (comes_of entries request (record { action = CheckBusyStatus; given = 0 }) state left later rest is comes))
+    omega (
+      arith,
+      paid_comes (program_of (code_of CheckBusyStatus) entries) 0 state left later rest
+          (comes_of entries request (record { action = CheckBusyStatus; given = 0 }) state left later rest is comes),
+    )
 runs_fall entries command (Waiting longer) request state left kept later rest is comes = absurd (none-some request is)
 runs_fall entries command Judging request state left kept later rest is comes = omega (arith, bound_comes (program_for entries request) request.given state left later rest comes)
 runs_fall entries command (Ending outcome) request state left kept later rest is comes = omega (arith, bound_comes (program_for entries request) request.given state left later rest comes)
@@ -166,7 +174,8 @@ moves_fall entries command timings old at (TurnsOn before request answer moves i
     le_le _ _ _ (turns_fall entries command timings before.stage request answer before.left before.kept is) here
 
 -- an answer lowers it
-pub run_lowers : (state : RunState) (left : ℕ) (answer : Result ℕ SpaceFault) (demand : Demand) → demanded state ≡ Some demand → bound (answered state left answer).0 (answered state left answer).1 < bound state left
+pub run_lowers : (state : RunState) (left : ℕ) (answer : Result ℕ SpaceFault) (demand : Demand) → demanded state ≡ Some demand →
+    bound (answered state left answer).0 (answered state left answer).1 < bound state left
 run_lowers (Ready c) left answer demand told = absurd (none-some demand told)
 run_lowers (Awaiting task awaited) left answer demand told = bound_falls task awaited left answer
 run_lowers (Ended result) left answer demand told = absurd (none-some demand told)

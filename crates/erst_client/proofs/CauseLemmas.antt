@@ -94,18 +94,21 @@ module _ {W : Type 0} (allows : W → Call → W → Type 0) (faults : W → ℕ
   pub rises : (old new : W) → Reaches allows old new → faults old ≤ faults new
   rises old new so = never_falls allows faults reasons old new so
 
-  stop_cause : (action : Action) (given budget : ℕ) (old : W) (stop : RunStop) (left : ℕ) (new : W) → Performs allows entries action given budget old (Err stop) left new → OfStop (faults old) (faults new) stop
+  stop_cause : (action : Action) (given budget : ℕ) (old : W) (stop : RunStop) (left : ℕ) (new : W) → Performs allows entries action given budget old (Err stop)
+      left new → OfStop (faults old) (faults new) stop
   stop_cause action given budget old (Space index Device) left new run = run_device allows faults reasons (program_of (code_of action) entries) given budget old index left new run
   stop_cause action given budget old stop left new run = tt
 
-  pub performs_cause : (action : Action) (given budget : ℕ) (old : W) (answer : Result ℕ RunStop) (left : ℕ) (new : W) → Performs allows entries action given budget old answer left new → OfAsked (faults old) (faults new) answer
+  pub performs_cause : (action : Action) (given budget : ℕ) (old : W) (answer : Result ℕ RunStop) (left : ℕ) (new : W) → Performs allows entries action given
+      budget old answer left new → OfAsked (faults old) (faults new) answer
   performs_cause action given budget old (Ok value) left new run = tt
   performs_cause action given budget old (Err stop) left new run = stop_cause action given budget old stop left new run
 
   ran : (action : Action) (given budget : ℕ) (old : W) (answer : Result ℕ RunStop) (left : ℕ) (new : W) → Performs allows entries action given budget old answer left new → faults old ≤ faults new
   ran action given budget old answer left new run = rises old new (performs_on allows entries old action given budget old answer left new Stays run)
 
-  pub asks_cause : (requests : List Request) (budget : ℕ) (old : W) (answers : Result (List ℕ) RunStop) (left : ℕ) (last : W) → Asks allows entries requests budget old answers left last → OfAsked (faults old) (faults last) answers
+  pub asks_cause : (requests : List Request) (budget : ℕ) (old : W) (answers : Result (List ℕ) RunStop) (left : ℕ) (last : W) →
+      Asks allows entries requests budget old answers left last → OfAsked (faults old) (faults last) answers
   asks_cause requests budget old answers left last (NoneLeft b state) = tt
   asks_cause requests budget old answers left last (Answered request rest b state answer asked next more after end run asks) = tt
   asks_cause requests budget old answers left last (StopsHere request rest b state stop after end run) = stop_cause request.action request.given b state stop after end run
@@ -113,7 +116,8 @@ module _ {W : Type 0} (allows : W → Call → W → Type 0) (faults : W → ℕ
       stop_within (faults state) (faults next) (faults end) (faults end) stop (ran request.action request.given b state (Ok answer) asked next run)
       (rises next end (asks_on allows entries next rest asked next (Err stop) after end Stays asks)) (asks_cause rest asked next (Err stop) after end asks) (omega arith)
 
-  waits_cause : (timings : Option (ℕ × ℕ)) (budget : ℕ) (first : W) (result : Result (Unit {0}) ClientError) (left : ℕ) (last : W) → Waits allows entries timings budget first result left last → OfAnswer (faults first) (faults last) result
+  waits_cause : (timings : Option (ℕ × ℕ)) (budget : ℕ) (first : W) (result : Result (Unit {0}) ClientError) (left : ℕ) (last : W) →
+      Waits allows entries timings budget first result left last → OfAnswer (faults first) (faults last) result
   waits_cause timings budget first result left last waits =
       elim waits as (λ result left last waits. OfAnswer (faults first) (faults last) result) [
         | IsIdle busy asked mid after last earlier run ↦ tt

@@ -11,7 +11,8 @@ use Rattle.erst_client.specs.declared.errors.AttachError.TheVariants.{NonVolatil
 use Rattle.erst_client.specs.declared.errors.ClientError.{ClientError}
 use Rattle.erst_client.specs.declared.errors.ClientError.TheVariants.{Hardware}
 use Rattle.erst_client.specs.Sequences.{write_requests, read_requests, Sequence}
-use Rattle.erst_client.specs.Commands.{ClientState, Puts, NotPut, NotMarked, IsPut, Writes, IsNoRecord, IsNotPut, IsAsked, copied, CopiesOut, IsFilled, IsNotFilled, Reads, IsNotRead, HasNoLength, IsNotCopied, IsCopied, Counts, Names}
+use Rattle.erst_client.specs.Commands.{ClientState, Puts, NotPut, NotMarked, IsPut, Writes, IsNoRecord, IsNotPut, IsAsked, copied, CopiesOut, IsFilled}
+use Rattle.erst_client.specs.Commands.{IsNotFilled, Reads, IsNotRead, HasNoLength, IsNotCopied, IsCopied, Counts, Names}
 use Rattle.erst_client.specs.Attaching.{attach_requests, Attaches}
 use Rattle.erst_client.specs.Causes.{OfAttaching, HasDeviceCause, HasAttachCause}
 use Rattle.erst_client.proofs.SequenceLemmas.{sequence_on}
@@ -41,13 +42,15 @@ module _ {W : Type 0} (allows : W → Call → W → Type 0) (faults : W → ℕ
       | IsNoRecord error is ↦ own_cause (faults old) (faults old) error (write_own bytes client.range error is)
       | IsNotPut error last fits puts ↦ puts_cause client.address bytes old (Err error) last puts
       | IsAsked mid result left last fits puts sequence ↦
-          answer_within (faults old) (faults mid) (faults last) (faults last) result (rises allows faults reasons client.table.entries old mid (puts_on allows client.address bytes old (Ok tt) mid puts))
+          answer_within (faults old) (faults mid) (faults last) (faults last) result (rises allows faults reasons client.table.entries old mid
+          (puts_on allows client.address bytes old (Ok tt) mid puts))
           (rises allows faults reasons client.table.entries mid last (sequence_on allows client.table.entries mid client.timings write_requests budget mid result left last Stays sequence))
           (sequence_cause allows faults reasons client.table.entries client.timings write_requests budget mid result left last sequence) (omega arith)
     ];
   }
 
-  copies_cause : (address : ℕ) (before after : List ℕ) (old : W) (result : Result (Unit {0}) ClientError) (new : W) (len : ℕ) → CopiesOut allows address before after old result new → OfAnswer (faults old) (faults new) (copied result len)
+  copies_cause : (address : ℕ) (before after : List ℕ) (old : W) (result : Result (Unit {0}) ClientError) (new : W) (len : ℕ) →
+      CopiesOut allows address before after old result new → OfAnswer (faults old) (faults new) (copied result len)
   copies_cause address before after old result new len copies =
       elim copies as (λ result new copies. OfAnswer (faults old) (faults new) (copied result len)) [
         | IsFilled new reads ↦ tt
@@ -67,7 +70,8 @@ module _ {W : Type 0} (allows : W → Call → W → Type 0) (faults : W → ℕ
       | IsNotCopied left mid field error last sequence size refused ↦ own_cause (faults old) (faults last) error (copy_own _ client.range (length out) error refused)
       | IsCopied left mid field next whole answer last sequence size fits copies ↦
           answer_within (faults old) (faults next) (faults last) (faults last) (copied answer _)
-          (rises allows faults reasons client.table.entries old next (Goes mid _ next (sequence_on allows client.table.entries old client.timings (read_requests id) budget old (Ok tt) left mid Stays sequence) size))
+          (rises allows faults reasons client.table.entries old next
+          (Goes mid _ next (sequence_on allows client.table.entries old client.timings (read_requests id) budget old (Ok tt) left mid Stays sequence) size))
           (rises allows faults reasons client.table.entries next last (copies_on allows next client.address _ whole next answer last Stays copies))
           (copies_cause client.address _ whole next answer last _ copies) (omega arith)
     ];
@@ -95,14 +99,16 @@ module _ {W : Type 0} (allows : W → Call → W → Type 0) (faults : W → ℕ
     go false true = tt
     go false false = tt
 
-  pub counts_cause : (entries : List Entry) (budget : ℕ) (old : W) (result : Result ℕ ClientError) (left : ℕ) (last : W) → Counts allows entries budget old result left last → HasDeviceCause (faults old) (faults last) result
+  pub counts_cause : (entries : List Entry) (budget : ℕ) (old : W) (result : Result ℕ ClientError) (left : ℕ) (last : W) →
+      Counts allows entries budget old result left last → HasDeviceCause (faults old) (faults last) result
   counts_cause entries budget old result left last counts = record {
     never_falls = rises allows faults reasons entries old last (counts_on allows entries budget old result left last counts);
     of_answer = subst (λ (r : Result ℕ ClientError). OfAnswer (faults old) (faults last) r) (sym counts.result_is)
         (of_counted (faults old) (faults last) counts.answer (performs_cause allows faults reasons entries GetRecordCount 0 budget old counts.answer left last counts.asks));
   }
 
-  pub names_cause : (entries : List Entry) (budget : ℕ) (old : W) (result : Result (Option ℕ) ClientError) (left : ℕ) (last : W) → Names allows entries budget old result left last → HasDeviceCause (faults old) (faults last) result
+  pub names_cause : (entries : List Entry) (budget : ℕ) (old : W) (result : Result (Option ℕ) ClientError) (left : ℕ) (last : W) →
+      Names allows entries budget old result left last → HasDeviceCause (faults old) (faults last) result
   names_cause entries budget old result left last names = record {
     never_falls = rises allows faults reasons entries old last (names_on allows entries budget old result left last names);
     of_answer = subst (λ (r : Result (Option ℕ) ClientError). OfAnswer (faults old) (faults last) r) (sym names.result_is)
@@ -117,9 +123,11 @@ module _ {W : Type 0} (allows : W → Call → W → Type 0) (faults : W → ℕ
     go false true = tt
     go false false = tt
 
-  pub attaches_cause : (erst : Erst) (budget : ℕ) (old : W) (result : Result ClientState AttachError) (left : ℕ) (last : W) → Attaches allows erst budget old result left last → HasAttachCause (faults old) (faults last) result
+  pub attaches_cause : (erst : Erst) (budget : ℕ) (old : W) (result : Result ClientState AttachError) (left : ℕ) (last : W) →
+      Attaches allows erst budget old result left last → HasAttachCause (faults old) (faults last) result
   attaches_cause erst budget old result left last attaches = record {
     never_falls = rises allows faults reasons erst.entries old last (attaches_on allows erst budget old result left last attaches);
     of_answer = subst (λ (r : Result ClientState AttachError). OfAttaching (faults old) (faults last) r) (sym attaches.result_is)
-        (of_attached (faults old) (faults last) erst attaches.answers (asks_cause allows faults reasons erst.entries (attach_requests erst.entries) budget old attaches.answers left last attaches.asks));
+        (of_attached (faults old) (faults last) erst attaches.answers (asks_cause allows faults reasons erst.entries (attach_requests erst.entries) budget old
+        attaches.answers left last attaches.asks));
   }

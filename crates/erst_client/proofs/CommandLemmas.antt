@@ -7,12 +7,14 @@ use Rattle.erst_entries.specs.declared.actions.Action.TheVariants.{GetRecordCoun
 use Rattle.erst_entries.specs.declared.entries.Entry.{Entry}
 use Rattle.erst_client.specs.declared.errors.ClientError.{ClientError}
 use Rattle.erst_client.specs.Sequences.{write_requests, read_requests, Sequence}
-use Rattle.erst_client.specs.Commands.{ClientState, Puts, NotPut, NotMarked, IsPut, Writes, IsNoRecord, IsNotPut, IsAsked, CopiesOut, IsFilled, IsNotFilled, copy_refusal, copied, Reads, IsNotRead, HasNoLength, IsNotCopied, IsCopied, Counts, Names}
+use Rattle.erst_client.specs.Commands.{ClientState, Puts, NotPut, NotMarked, IsPut, Writes, IsNoRecord, IsNotPut, IsAsked, CopiesOut, IsFilled, IsNotFilled}
+use Rattle.erst_client.specs.Commands.{copy_refusal, copied, Reads, IsNotRead, HasNoLength, IsNotCopied, IsCopied, Counts, Names}
 use Rattle.erst_client.proofs.RequestLemmas.{performs_on}
 use Rattle.erst_client.proofs.SequenceLemmas.{sequence_on}
 use Rattle.erst_client.proofs.Terms.{LengthRead}
 
-pub puts_on : {W : Type 0} (allows : W → Call → W → Type 0) (address : ℕ) (bytes : List ℕ) (old : W) (result : Result (Unit {0}) ClientError) (new : W) → Puts allows address bytes old result new → Reaches allows old new
+pub puts_on : {W : Type 0} (allows : W → Call → W → Type 0) (address : ℕ) (bytes : List ℕ) (old : W) (result : Result (Unit {0}) ClientError) (new : W) →
+    Puts allows address bytes old result new → Reaches allows old new
 puts_on allows address bytes old result new puts =
     elim puts as (λ result new puts. Reaches allows old new) [
       | NotPut fault last first ↦ Goes old _ last Stays first
@@ -38,7 +40,8 @@ copies_on allows first address before after old result new so copies =
       | IsNotFilled fault new reads ↦ Goes old _ new so reads
     ]
 
-pub reads_on : {W : Type 0} (allows : W → Call → W → Type 0) (client : ClientState) (id : ℕ) (out : List ℕ) (budget : ℕ) (old : W) (result : Result ℕ ClientError) (after : List ℕ) (left : ℕ) (last : W) →
+pub reads_on : {W : Type 0} (allows : W → Call → W → Type 0) (client : ClientState) (id : ℕ) (out : List ℕ) (budget : ℕ) (old : W)
+    (result : Result ℕ ClientError) (after : List ℕ) (left : ℕ) (last : W) →
     Reads allows client id out budget old result after left last → Reaches allows old last
 reads_on allows client id out budget old result after left last reads =
     elim reads as (λ result after left last reads. Reaches allows old last) [

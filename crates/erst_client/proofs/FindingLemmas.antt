@@ -26,7 +26,8 @@ use Rattle.erst_client.specs.Timings.{timings_of}
 use Rattle.erst_client.specs.Requests.{Asks, NoneLeft, Answered, StopsLater, StopsHere}
 use Rattle.erst_client.specs.Attaching.{Attaches, client_result, found_result, AsksTimings, NoTimings, HasTimings, TimingsStop}
 use Rattle.erst_client.specs.Asking.{asking_first, asking_answered, AskingMoves, AskingMade}
-use Rattle.erst_client.specs.Finding.{finding_first, asking_in, with_asking, finding_demanded, finding_answered, attributed, heard_in, finding_result, finding_left, FindingMoves, IsThere, IsHeard, GoesOn, IsAsking, plain, FindingStands, FindingMade, finding_bound}
+use Rattle.erst_client.specs.Finding.{finding_first, asking_in, with_asking, finding_demanded, finding_answered, attributed, heard_in, finding_result}
+use Rattle.erst_client.specs.Finding.{finding_left, FindingMoves, IsThere, IsHeard, GoesOn, IsAsking, plain, FindingStands, FindingMade, finding_bound}
 use Rattle.erst_client.proofs.Terms.{timing_requests}
 use Rattle.erst_client.proofs.AttachLemmas.{timings_asked, found_attached}
 use Rattle.erst_client.proofs.AskingLemmas.{asking_begins, asking_moves, asking_answers, asking_performs}
@@ -48,7 +49,8 @@ rank_attributed entries address len attributes left =
       | false ↦ omega arith
     ]
 
-pub rank_heard : (entries : List Entry) (at : Finding) (old : Asking) (answer : Result ℕ RunStop) (left : ℕ) → asking_in at ≡ Some old → finding_rank (heard_in entries at answer left) < finding_rank at
+pub rank_heard : (entries : List Entry) (at : Finding) (old : Asking) (answer : Result ℕ RunStop) (left : ℕ) → asking_in at ≡ Some old →
+    finding_rank (heard_in entries at answer left) < finding_rank at
 rank_heard entries (Address asking) old (Ok number) left is = omega arith
 rank_heard entries (Length address asking) old (Ok number) left is = omega arith
 rank_heard entries (Attributes address len asking) old (Ok number) left is = rank_attributed entries address len number left
@@ -60,36 +62,43 @@ rank_heard entries (Timings address len attributes asking) old (Err stop) left i
 rank_heard entries (Ended result before) old answer left is = absurd (none-some old is)
 
 -- requests behind others
-asks_then : {W : Type 0} (allows : W → Call → W → Type 0) (entries : List Entry) (asked : List Request) (budget : ℕ) (first : W) (told : List ℕ) (left : ℕ) (mid : W) (rest : List Request) (more : List ℕ) (after : ℕ) (last : W) →
+asks_then : {W : Type 0} (allows : W → Call → W → Type 0) (entries : List Entry) (asked : List Request) (budget : ℕ) (first : W) (told : List ℕ) (left : ℕ)
+    (mid : W) (rest : List Request) (more : List ℕ) (after : ℕ) (last : W) →
     Asks allows entries asked budget first (Ok told) left mid → Asks allows entries rest left mid (Ok more) after last → Asks allows entries (asked ++ rest) budget first (Ok (told ++ more)) after last
 asks_then allows entries asked budget first told left mid rest more after last (NoneLeft b old) next = next
 asks_then allows entries asked budget first told left mid rest more after last (Answered request later b old answer spare between answers end final run asks) next =
     Answered request (later ++ rest) b old answer spare between (answers ++ more) after last run (asks_then allows entries later spare between answers left mid rest more after last asks next)
 
-asks_stop : {W : Type 0} (allows : W → Call → W → Type 0) (entries : List Entry) (asked : List Request) (budget : ℕ) (first : W) (told : List ℕ) (left : ℕ) (mid : W) (rest : List Request) (stop : RunStop) (after : ℕ) (last : W) →
+asks_stop : {W : Type 0} (allows : W → Call → W → Type 0) (entries : List Entry) (asked : List Request) (budget : ℕ) (first : W) (told : List ℕ) (left : ℕ)
+    (mid : W) (rest : List Request) (stop : RunStop) (after : ℕ) (last : W) →
     Asks allows entries asked budget first (Ok told) left mid → Asks allows entries rest left mid (Err stop) after last → Asks allows entries (asked ++ rest) budget first (Err stop) after last
 asks_stop allows entries asked budget first told left mid rest stop after last (NoneLeft b old) next = next
 asks_stop allows entries asked budget first told left mid rest stop after last (Answered request later b old answer spare between answers end final run asks) next =
     StopsLater request (later ++ rest) b old answer spare between stop after last run (asks_stop allows entries later spare between answers left mid rest stop after last asks next)
 
 -- the program of a request has answered
-asks_one : {W : Type 0} (allows : W → Call → W → Type 0) (entries : List Entry) (steps : ℕ) (first : W) (asked : List Request) (told : List ℕ) (action : Action) (asking : Asking) (now : W) (number : ℕ) →
+asks_one : {W : Type 0} (allows : W → Call → W → Type 0) (entries : List Entry) (steps : ℕ) (first : W) (asked : List Request) (told : List ℕ) (action : Action)
+    (asking : Asking) (now : W) (number : ℕ) →
     IsAsking allows entries steps first asked told action asking now → ended asking.state ≡ Some (Ok number) →
     Asks allows entries (asked ++ (plain action ∷ [])) steps first (Ok (told ++ (number ∷ []))) asking.left now
 asks_one allows entries steps first asked told action asking now number so is =
     asks_then allows entries asked steps first told so.before so.mid (plain action ∷ []) (number ∷ []) asking.left now so.asks
-    (Answered (plain action) [] so.before so.mid number asking.left now [] asking.left now (asking_performs allows entries action so.before so.mid asking now (Ok number) is so.stands) (NoneLeft asking.left now))
+    (Answered (plain action) [] so.before so.mid number asking.left now [] asking.left now (asking_performs allows entries action so.before so.mid asking now
+    (Ok number) is so.stands) (NoneLeft asking.left now))
 
 -- or stopped
-asks_none : {W : Type 0} (allows : W → Call → W → Type 0) (entries : List Entry) (steps : ℕ) (first : W) (asked : List Request) (told : List ℕ) (action : Action) (asking : Asking) (now : W) (rest : List Request) (stop : RunStop) →
-    IsAsking allows entries steps first asked told action asking now → ended asking.state ≡ Some (Err stop) → Asks allows entries (asked ++ (plain action ∷ rest)) steps first (Err stop) asking.left now
+asks_none : {W : Type 0} (allows : W → Call → W → Type 0) (entries : List Entry) (steps : ℕ) (first : W) (asked : List Request) (told : List ℕ)
+    (action : Action) (asking : Asking) (now : W) (rest : List Request) (stop : RunStop) →
+    IsAsking allows entries steps first asked told action asking now → ended asking.state ≡ Some (Err stop) →
+    Asks allows entries (asked ++ (plain action ∷ rest)) steps first (Err stop) asking.left now
 asks_none allows entries steps first asked told action asking now rest stop so is =
     asks_stop allows entries asked steps first told so.before so.mid (plain action ∷ rest) stop asking.left now so.asks
     (StopsHere (plain action) rest so.before so.mid stop asking.left now (asking_performs allows entries action so.before so.mid asking now (Err stop) is so.stands))
 
 -- the next request begins
 next_asked : {W : Type 0} (allows : W → Call → W → Type 0) (entries : List Entry) (steps : ℕ) (first : W) (asked : List Request) (told : List ℕ) (action : Action) (left : ℕ) (now : W) →
-    Asks allows entries asked steps first (Ok told) left now → IsAsking allows entries steps first asked told action (record { action = action; state = first_state (program_of (code_of action) entries); left = left }) now
+    Asks allows entries asked steps first (Ok told) left now → IsAsking allows entries steps first asked told action
+    (record { action = action; state = first_state (program_of (code_of action) entries); left = left }) now
 next_asked allows entries steps first asked told action left now asks = record { before = left; mid = now; asks = asks; stands = asking_begins allows entries action left now }
 
 abbrev count : List Entry → ℕ
@@ -114,14 +123,16 @@ stands_attributed : {W : Type 0} (allows : W → Call → W → Type 0) (erst : 
     Asks allows erst.entries three steps first (Ok (address ∷ len ∷ attributes ∷ [])) left now → FindingStands allows erst steps first (attributed erst.entries address len attributes left) now
 stands_attributed allows erst steps first address len attributes left now asks =
     elim (count erst.entries == 0) as (λ (b : Bool). (count erst.entries == 0) ≡ b →
-    FindingStands allows erst steps first (if b then Ended (found_result address len attributes None) left else Timings address len attributes (asking_first erst.entries GetExecuteOperationTimings left)) now) [
+    FindingStands allows erst steps first (if b then Ended (found_result address len attributes None) left else Timings address len attributes
+    (asking_first erst.entries GetExecuteOperationTimings left)) now) [
       | true ↦ λ none. all_asked allows erst steps first address len attributes left now None left now asks (NoTimings (eqb-true _ _ none))
       | false ↦ λ some. (eqb-false _ _ some, next_asked allows erst.entries steps first three (address ∷ len ∷ attributes ∷ []) GetExecuteOperationTimings left now asks)
     ] refl
 
 -- where the answer of its program leads
 stands_heard : {W : Type 0} (allows : W → Call → W → Type 0) (erst : Erst) (steps : ℕ) (first : W) (at : Finding) (asking : Asking) (now : W) (answer : Result ℕ RunStop) →
-    FindingStands allows erst steps first (with_asking at asking) now → ended asking.state ≡ Some answer → asking_in (with_asking at asking) ≡ Some asking → FindingStands allows erst steps first (heard_in erst.entries at answer asking.left) now
+    FindingStands allows erst steps first (with_asking at asking) now → ended asking.state ≡ Some answer → asking_in (with_asking at asking) ≡ Some asking →
+    FindingStands allows erst steps first (heard_in erst.entries at answer asking.left) now
 stands_heard allows erst steps first (Address old) asking now (Ok number) so is in_it =
     next_asked allows erst.entries steps first (plain GetErrorLogAddressRange ∷ []) (number ∷ []) GetErrorLogAddressRangeLength asking.left now
     (asks_one allows erst.entries steps first [] [] GetErrorLogAddressRange asking now number so is)
@@ -171,7 +182,8 @@ one_moves : {W : Type 0} (allows : W → Call → W → Type 0) (entries : List 
 one_moves allows entries steps first asked told action old asking now moves so =
     record { before = so.before; mid = so.mid; asks = so.asks; stands = asking_moves allows entries action so.before so.mid old asking now moves so.stands }
 
-with_moved : {W : Type 0} (allows : W → Call → W → Type 0) (erst : Erst) (steps : ℕ) (first : W) (at : Finding) (old asking : Asking) (now : W) → asking_in at ≡ Some old → AskingMoves erst.entries old asking →
+with_moved : {W : Type 0} (allows : W → Call → W → Type 0) (erst : Erst) (steps : ℕ) (first : W) (at : Finding) (old asking : Asking) (now : W) →
+    asking_in at ≡ Some old → AskingMoves erst.entries old asking →
     FindingStands allows erst steps first at now → FindingStands allows erst steps first (with_asking at asking) now
 with_moved allows erst steps first (Address mine) old asking now is moves so =
     one_moves allows erst.entries steps first _ _ _ mine asking now (subst (λ (a : Asking). AskingMoves erst.entries a asking) (sym (same_Some _ _ is)) moves) so
@@ -202,8 +214,10 @@ finding_moves allows erst steps first old at now (IsHeard before was asking answ
 finding_moves allows erst steps first old at now (GoesOn before was asking moves is runs) so =
     with_moved allows erst steps first before was asking now is runs (finding_moves allows erst steps first old before now moves so)
 
-one_answers : {W : Type 0} (allows : W → Call → W → Type 0) (entries : List Entry) (steps : ℕ) (first : W) (asked : List Request) (told : List ℕ) (action : Action) (asking : Asking) (now : W) (answer : Result ℕ SpaceFault) (last : W) →
-    IsAsking allows entries steps first asked told action asking now → AskingMade allows asking now answer last → IsAsking allows entries steps first asked told action (asking_answered asking answer) last
+one_answers : {W : Type 0} (allows : W → Call → W → Type 0) (entries : List Entry) (steps : ℕ) (first : W) (asked : List Request) (told : List ℕ)
+    (action : Action) (asking : Asking) (now : W) (answer : Result ℕ SpaceFault) (last : W) →
+    IsAsking allows entries steps first asked told action asking now → AskingMade allows asking now answer last → IsAsking allows entries steps first asked told
+    action (asking_answered asking answer) last
 one_answers allows entries steps first asked told action asking now answer last so made =
     record { before = so.before; mid = so.mid; asks = so.asks; stands = asking_answers allows entries action so.before so.mid asking now answer last so.stands made }
 
@@ -215,13 +229,15 @@ finding_answers allows erst steps first (Attributes address len asking) now answ
 finding_answers allows erst steps first (Timings address len attributes asking) now answer last so made = (so.0, one_answers allows erst.entries steps first _ _ _ asking now answer last so.1 made)
 finding_answers allows erst steps first (Ended result left) now answer last so made = absurd made
 
-pub finding_ends : {W : Type 0} (allows : W → Call → W → Type 0) (erst : Erst) (steps : ℕ) (first : W) (at : Finding) (now : W) (result : Result FoundRange AttachError) → finding_result at ≡ Some result →
+pub finding_ends : {W : Type 0} (allows : W → Call → W → Type 0) (erst : Erst) (steps : ℕ) (first : W) (at : Finding) (now : W)
+    (result : Result FoundRange AttachError) → finding_result at ≡ Some result →
     FindingStands allows erst steps first at now → Attaches allows erst steps first (client_result erst result) (finding_left at) now
 finding_ends allows erst steps first (Address asking) now result is so = absurd (none-some result is)
 finding_ends allows erst steps first (Length address asking) now result is so = absurd (none-some result is)
 finding_ends allows erst steps first (Attributes address len asking) now result is so = absurd (none-some result is)
 finding_ends allows erst steps first (Timings address len attributes asking) now result is so = absurd (none-some result is)
-finding_ends allows erst steps first (Ended found left) now result is so = subst (λ (r : Result FoundRange AttachError). Attaches allows erst steps first (client_result erst r) left now) (same_Some _ _ is) so
+finding_ends allows erst steps first (Ended found left) now result is so =
+    subst (λ (r : Result FoundRange AttachError). Attaches allows erst steps first (client_result erst r) left now) (same_Some _ _ is) so
 
 -- the bound
 start_bound : (entries : List Entry) (action : Action) (left : ℕ) → bound (asking_first entries action left).state left ≤ 4 * left

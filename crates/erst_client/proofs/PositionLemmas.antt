@@ -23,7 +23,8 @@ use Rattle.erst_client.specs.Positions.{program_for, first_run, entered, answere
 use Rattle.erst_client.proofs.StageLemmas.{reached_first, reached_run, reached_wait}
 
 -- a stage stands at its beginning once it was reached
-stands_run : {W : Type 0} (allows : W → Call → W → Type 0) (entries : List Entry) (command : Command) (timings : Option (ℕ × ℕ)) (budget : ℕ) (first : W) (request : Option Request) (stage : Stage) (left : ℕ) (now : W) →
+stands_run : {W : Type 0} (allows : W → Call → W → Type 0) (entries : List Entry) (command : Command) (timings : Option (ℕ × ℕ)) (budget : ℕ) (first : W)
+    (request : Option Request) (stage : Stage) (left : ℕ) (now : W) →
     Reached allows entries command timings budget first stage left now → StandsBy allows entries command timings budget first request stage (first_run entries request) (steps_for stage left) left now
 stands_run allows entries command timings budget first None stage left now so = so
 stands_run allows entries command timings budget first (Some request) stage left now so =
@@ -39,7 +40,8 @@ at_first allows entries command timings budget first =
     stands_entered allows entries command timings budget first (Requesting Begin) budget first (reached_first allows entries command timings budget first)
 
 -- what stands in a stage with a program, by that program
-of_request : {W : Type 0} (allows : W → Call → W → Type 0) (entries : List Entry) (command : Command) (timings : Option (ℕ × ℕ)) (budget : ℕ) (first : W) (at : Position) (request : Request) (now : W) →
+of_request : {W : Type 0} (allows : W → Call → W → Type 0) (entries : List Entry) (command : Command) (timings : Option (ℕ × ℕ)) (budget : ℕ) (first : W)
+    (at : Position) (request : Request) (now : W) →
     request_for command at.stage ≡ Some request → StandsAt allows entries command timings budget first at now →
     IsRunning allows entries command timings budget first request at.stage at.state at.left at.kept now
 of_request allows entries command timings budget first at request now is so =
@@ -64,8 +66,10 @@ at_moves allows entries command timings budget first old at now (Turns before re
     (reached_run allows entries command timings budget first before.stage request before.kept run.from answer before.left now is run.reached done)
 
 -- and so does an answer
-in_run : {W : Type 0} (allows : W → Call → W → Type 0) (entries : List Entry) (command : Command) (timings : Option (ℕ × ℕ)) (budget : ℕ) (first : W) (request : Request) (stage : Stage) (state : RunState)
-    (left kept : ℕ) (now : W) (answer : Result ℕ SpaceFault) (last : W) → IsRunning allows entries command timings budget first request stage state left kept now → MadeBy allows (demanded state) now answer last →
+in_run : {W : Type 0} (allows : W → Call → W → Type 0) (entries : List Entry) (command : Command) (timings : Option (ℕ × ℕ)) (budget : ℕ) (first : W)
+    (request : Request) (stage : Stage) (state : RunState)
+    (left kept : ℕ) (now : W) (answer : Result ℕ SpaceFault) (last : W) → IsRunning allows entries command timings budget first request stage state left kept
+    now → MadeBy allows (demanded state) now answer last →
     IsRunning allows entries command timings budget first request stage (answered state left answer).0 (answered state left answer).1 kept last
 in_run allows entries command timings budget first request stage (Awaiting task awaited) left kept now answer last so made =
     record {
@@ -76,8 +80,10 @@ in_run allows entries command timings budget first request stage (Awaiting task 
 in_run allows entries command timings budget first request stage (Ready c) left kept now answer last so made = absurd made
 in_run allows entries command timings budget first request stage (Ended r) left kept now answer last so made = absurd made
 
-pub in_answered : {W : Type 0} (allows : W → Call → W → Type 0) (entries : List Entry) (command : Command) (timings : Option (ℕ × ℕ)) (budget : ℕ) (first : W) (stage : Stage) (state : RunState) (left kept : ℕ) (now : W)
-    (answer : Result ℕ SpaceFault) (last : W) → StandsBy allows entries command timings budget first (request_for command stage) stage state left kept now → MadeIn allows timings stage state now answer last →
+pub in_answered : {W : Type 0} (allows : W → Call → W → Type 0) (entries : List Entry) (command : Command) (timings : Option (ℕ × ℕ)) (budget : ℕ) (first : W)
+    (stage : Stage) (state : RunState) (left kept : ℕ) (now : W)
+    (answer : Result ℕ SpaceFault) (last : W) → StandsBy allows entries command timings budget first (request_for command stage) stage state left kept now →
+    MadeIn allows timings stage state now answer last →
     StandsAt allows entries command timings budget first (answered_in entries command stage state left kept answer) last
 in_answered allows entries command timings budget first (Requesting part) state left kept now answer last so made =
     in_run allows entries command timings budget first (request_of command part) (Requesting part) state left kept now answer last so made
@@ -91,7 +97,8 @@ in_answered allows entries command timings budget first (Ending outcome) state l
     in_run allows entries command timings budget first (record { action = EndOperation; given = 0 }) (Ending outcome) state left kept now answer last so made
 in_answered allows entries command timings budget first (Done result) state left kept now answer last so made = absurd made
 
-ended_so : {W : Type 0} (allows : W → Call → W → Type 0) (entries : List Entry) (command : Command) (timings : Option (ℕ × ℕ)) (budget : ℕ) (first : W) (stage : Stage) (state : RunState) (left kept : ℕ) (now : W)
+ended_so : {W : Type 0} (allows : W → Call → W → Type 0) (entries : List Entry) (command : Command) (timings : Option (ℕ × ℕ)) (budget : ℕ) (first : W)
+    (stage : Stage) (state : RunState) (left kept : ℕ) (now : W)
     (result : Result (Unit {0}) ClientError) → result_at stage ≡ Some result → StandsBy allows entries command timings budget first (request_for command stage) stage state left kept now →
     Sequence allows entries timings (requests_of command) budget first result kept now
 ended_so allows entries command timings budget first (Requesting part) state left kept now result is so = absurd (none-some result is)

@@ -32,7 +32,8 @@ pub read_begins : {W : Type 0} (allows : W → Call → W → Type 0) (client : 
 read_begins allows client id out steps first = (refl, at_first allows client.table.entries (Read id) client.timings steps first)
 
 -- where the sequence stands, the read stands, also at its end
-stands_sequenced : {W : Type 0} (allows : W → Call → W → Type 0) (client : ClientState) (id : ℕ) (out : List ℕ) (steps : ℕ) (first : W) (at : Position) (stage : Stage) (held : List ℕ) (now : W) → at.stage ≡ stage → held ≡ out →
+stands_sequenced : {W : Type 0} (allows : W → Call → W → Type 0) (client : ClientState) (id : ℕ) (out : List ℕ) (steps : ℕ) (first : W) (at : Position)
+    (stage : Stage) (held : List ℕ) (now : W) → at.stage ≡ stage → held ≡ out →
     StandsAt allows client.table.entries (Read id) client.timings steps first at now → ReadStands allows client id out steps first (sequenced at stage) held now
 stands_sequenced allows client id out steps first at (Done (Ok done)) held now is same so =
     (same, at_result allows client.table.entries (Read id) client.timings steps first at now (Ok done) (ap result_at is) so)
@@ -53,27 +54,31 @@ pub read_moves : {W : Type 0} (allows : W → Call → W → Type 0) (client : C
     ReadMoves client.table.entries id client.timings old reading → ReadStands allows client id out steps first old held now → ReadStands allows client id out steps first reading held now
 read_moves allows client id out steps first (Sequence old) reading held now moves so =
     same_read allows client id out steps first (sequenced moves.0 moves.0.stage) reading held now moves.1.1
-    (stands_sequenced allows client id out steps first moves.0 moves.0.stage held now refl so.0 (at_moves allows client.table.entries (Read id) client.timings steps first old moves.0 now moves.1.0 so.1))
+    (stands_sequenced allows client id out steps first moves.0 moves.0.stage held now refl so.0 (at_moves allows client.table.entries (Read id) client.timings
+    steps first old moves.0 now moves.1.0 so.1))
 read_moves allows client id out steps first (Length left) reading held now moves so = same_read allows client id out steps first (Length left) reading held now moves so
 read_moves allows client id out steps first (Record len left) reading held now moves so = same_read allows client id out steps first (Record len left) reading held now moves so
 read_moves allows client id out steps first (Ended result left) reading held now moves so = same_read allows client id out steps first (Ended result left) reading held now moves so
 
 -- the length was read
-stands_measured : {W : Type 0} (allows : W → Call → W → Type 0) (client : ClientState) (id : ℕ) (out : List ℕ) (steps : ℕ) (first : W) (left : ℕ) (now : W) (field : List ℕ) (last : W) (why : Option ClientError) →
+stands_measured : {W : Type 0} (allows : W → Call → W → Type 0) (client : ClientState) (id : ℕ) (out : List ℕ) (steps : ℕ) (first : W) (left : ℕ) (now : W)
+    (field : List ℕ) (last : W) (why : Option ClientError) →
     IsSequence allows client.table.entries client.timings (read_requests id) steps first (Ok tt) left now → LengthRead allows client now field (Ok tt) last →
     copy_refusal (number_at field 0 4) client.range (length out) ≡ why → ReadStands allows client id out steps first (measured why (number_at field 0 4) left) out last
 stands_measured allows client id out steps first left now field last None ran reads is = (refl, record { mid = now; field = field; ran = ran; measures = reads; len_is = refl; fits = is })
 stands_measured allows client id out steps first left now field last (Some error) ran reads is = IsNotCopied left now field error last ran reads is
 
 -- the record was copied, or not
-stands_copied : {W : Type 0} (allows : W → Call → W → Type 0) (client : ClientState) (id : ℕ) (out : List ℕ) (steps : ℕ) (first : W) (len left : ℕ) (now : W) (whole : List ℕ) (answer : Result (Unit {0}) ClientError) (last : W) →
+stands_copied : {W : Type 0} (allows : W → Call → W → Type 0) (client : ClientState) (id : ℕ) (out : List ℕ) (steps : ℕ) (first : W) (len left : ℕ) (now : W)
+    (whole : List ℕ) (answer : Result (Unit {0}) ClientError) (last : W) →
     IsMeasured allows client id out steps first len left now → CopiesOut allows client.address (take len out) whole now answer last →
     Reads allows client id out steps first (copied answer len) (whole ++ drop len out) left last
 stands_copied allows client id out steps first len left now whole answer last so copies =
     read_copied allows client id out steps first left so.mid so.field now whole answer last len so.len_is so.ran so.measures
     (subst (λ (n : ℕ). copy_refusal n client.range (length out) ≡ None) (sym so.len_is) so.fits) copies
 
-pub read_answers : {W : Type 0} (allows : W → Call → W → Type 0) (client : ClientState) (id : ℕ) (out : List ℕ) (steps : ℕ) (first : W) (reading : Reading) (held : List ℕ) (now : W) (answer : Result ℕ SpaceFault)
+pub read_answers : {W : Type 0} (allows : W → Call → W → Type 0) (client : ClientState) (id : ℕ) (out : List ℕ) (steps : ℕ) (first : W) (reading : Reading)
+    (held : List ℕ) (now : W) (answer : Result ℕ SpaceFault)
     (after : List ℕ) (last : W) → ReadStands allows client id out steps first reading held now → ReadMade allows client reading held now answer after last →
     ReadStands allows client id out steps first (read_answered client.table.entries client.range id (length out) reading answer) after last
 read_answers allows client id out steps first (Sequence at) held now answer after last so made =
@@ -94,7 +99,8 @@ read_answers allows client id out steps first (Record len left) held now (Err fa
     (IsNotFilled fault last (subst (λ (h : List ℕ). allows now (ReadBytes client.address (take len h) made.0 (Err fault)) last) so.0 made.1.0)))
 read_answers allows client id out steps first (Ended result left) held now answer after last so made = absurd made
 
-pub read_ends : {W : Type 0} (allows : W → Call → W → Type 0) (client : ClientState) (id : ℕ) (out : List ℕ) (steps : ℕ) (first : W) (reading : Reading) (held : List ℕ) (now : W) (result : Result ℕ ClientError) →
+pub read_ends : {W : Type 0} (allows : W → Call → W → Type 0) (client : ClientState) (id : ℕ) (out : List ℕ) (steps : ℕ) (first : W) (reading : Reading)
+    (held : List ℕ) (now : W) (result : Result ℕ ClientError) →
     read_result reading ≡ Some result → ReadStands allows client id out steps first reading held now → Reads allows client id out steps first result held (read_left reading) now
 read_ends allows client id out steps first (Sequence at) held now result is so = absurd (none-some result is)
 read_ends allows client id out steps first (Length left) held now result is so = absurd (none-some result is)

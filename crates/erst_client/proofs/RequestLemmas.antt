@@ -19,7 +19,8 @@ performs_on allows entries first action given budget mid answer left last so run
     reaches_then allows first mid last so (run_reaches allows (program_of (code_of action) entries) given budget mid answer left last run)
 
 -- and so are requests
-pub asks_on : {W : Type 0} (allows : W → Call → W → Type 0) (entries : List Entry) (first : W) (requests : List Request) (budget : ℕ) (mid : W) (answers : Result (List ℕ) RunStop) (left : ℕ) (last : W) →
+pub asks_on : {W : Type 0} (allows : W → Call → W → Type 0) (entries : List Entry) (first : W) (requests : List Request) (budget : ℕ) (mid : W)
+    (answers : Result (List ℕ) RunStop) (left : ℕ) (last : W) →
     Reaches allows first mid → Asks allows entries requests budget mid answers left last → Reaches allows first last
 asks_on allows entries first requests budget mid answers left last so (NoneLeft b old) = so
 asks_on allows entries first requests budget mid answers left last so (Answered request rest b old answer asked next more after end run asks) =

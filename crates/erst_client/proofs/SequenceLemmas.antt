@@ -29,7 +29,8 @@ busy_on allows entries first timings budget from busy left last so (Again before
     pauses_on allows first timings (suc before) next (Ok tt) new
     (performs_on allows entries first CheckBusyStatus 0 asked mid (Ok answer) after next (busy_on allows entries first timings budget from before asked mid so earlier) run) pauses
 
-pub waits_on : {W : Type 0} (allows : W → Call → W → Type 0) (entries : List Entry) (first : W) (timings : Option (ℕ × ℕ)) (budget : ℕ) (from : W) (result : Result (Unit {0}) ClientError) (left : ℕ) (last : W) →
+pub waits_on : {W : Type 0} (allows : W → Call → W → Type 0) (entries : List Entry) (first : W) (timings : Option (ℕ × ℕ)) (budget : ℕ) (from : W)
+    (result : Result (Unit {0}) ClientError) (left : ℕ) (last : W) →
     Reaches allows first from → Waits allows entries timings budget from result left last → Reaches allows first last
 waits_on allows entries first timings budget from result left last so waits =
     elim waits as (λ result left last waits. Reaches allows first last) [
@@ -97,10 +98,12 @@ pub waited-start : (timings : Option (ℕ × ℕ)) → HasWaited timings 0 0
 waited-start None = refl
 waited-start (Some known) = omega arith
 
-pub waiting-start : {W : Type 0} (allows : W → Call → W → Type 0) (entries : List Entry) (timings : Option (ℕ × ℕ)) (budget : ℕ) (first : W) → IsWaiting allows entries timings budget first 0 budget first
+pub waiting-start : {W : Type 0} (allows : W → Call → W → Type 0) (entries : List Entry) (timings : Option (ℕ × ℕ)) (budget : ℕ) (first : W) →
+    IsWaiting allows entries timings budget first 0 budget first
 waiting-start allows entries timings budget first = record { busy = 0; runs = NotYet; has = waited-start timings }
 
-pub waiting-on : {W : Type 0} (allows : W → Call → W → Type 0) (entries : List Entry) (timings : Option (ℕ × ℕ)) (budget : ℕ) (first : W) (waited left : ℕ) (mid : W) (answer after : ℕ) (next : W) (longer : ℕ) (new : W) →
+pub waiting-on : {W : Type 0} (allows : W → Call → W → Type 0) (entries : List Entry) (timings : Option (ℕ × ℕ)) (budget : ℕ) (first : W) (waited left : ℕ)
+    (mid : W) (answer after : ℕ) (next : W) (longer : ℕ) (new : W) →
     IsWaiting allows entries timings budget first waited left mid → Performs allows entries CheckBusyStatus 0 left mid (Ok answer) after next → (answer ≡ 0 → ⊥) →
     Paused allows timings waited next (Ok longer) new → IsWaiting allows entries timings budget first longer after new
 waiting-on allows entries timings budget first waited left mid answer after next longer new on run some paused =

@@ -57,9 +57,11 @@ rest_is command Identifier = refl
 rest_is command Execute = refl
 
 -- a request was answered
-requested : {W : Type 0} (allows : W → Call → W → Type 0) (entries : List Entry) (command : Command) (timings : Option (ℕ × ℕ)) (budget : ℕ) (first : W) (part : Part) (before : ℕ) (from : W) (number left : ℕ) (now : W)
+requested : {W : Type 0} (allows : W → Call → W → Type 0) (entries : List Entry) (command : Command) (timings : Option (ℕ × ℕ)) (budget : ℕ) (first : W)
+    (part : Part) (before : ℕ) (from : W) (number left : ℕ) (now : W)
     (next : Option Part) → rest_of command part ≡ requests_from command next → IsRequesting allows entries command budget first part before from →
-    Performs allows entries (request_of command part).action (request_of command part).given before from (Ok number) left now → Reached allows entries command timings budget first (asked next) left now
+    Performs allows entries (request_of command part).action (request_of command part).given before from (Ok number) left now →
+    Reached allows entries command timings budget first (asked next) left now
 unfolding requests_from
 requested allows entries command timings budget first part before from number left now None rest so run =
     let asks : AsksAll allows entries (rest_of command part) left now (Ok tt) left now =
@@ -74,7 +76,8 @@ requested allows entries command timings budget first part before from number le
     }
 
 -- the firmware is busy
-was_busy : {W : Type 0} (allows : W → Call → W → Type 0) (entries : List Entry) (command : Command) (timings : Option (ℕ × ℕ)) (budget : ℕ) (first : W) (waited before : ℕ) (from : W) (number left : ℕ) (now : W) →
+was_busy : {W : Type 0} (allows : W → Call → W → Type 0) (entries : List Entry) (command : Command) (timings : Option (ℕ × ℕ)) (budget : ℕ) (first : W)
+    (waited before : ℕ) (from : W) (number left : ℕ) (now : W) →
     Reached allows entries command timings budget first (Checking waited) before from → Performs allows entries CheckBusyStatus 0 before from (Ok number) left now → (number ≡ 0 → ⊥) →
     Reached allows entries command timings budget first (busy timings waited) left now
 was_busy {W = W} allows entries command None budget first waited before from number left now so run some = (
@@ -85,14 +88,18 @@ was_busy {W = W} allows entries command None budget first waited before from num
 was_busy allows entries command (Some known) budget first waited before from number left now so run some =
     elim (nat_le (waited + 10) known.0) as (λ (b : Bool). nat_le (waited + 10) known.0 ≡ b →
     Reached allows entries command (Some known) budget first (if b then Waiting (waited + 10) else Ending (Err (Late waited))) left now) [
-      | true ↦ λ less.
-          (so.0, λ last waits. waiting-on allows entries (Some known) so.0.left so.0.mid waited before from number left now (waited + 10) last so.1 run some (Pause known last refl (is_most _ _ less) waits))
+      | true ↦ λ less. (
+        so.0,
+        λ last waits. waiting-on allows entries (Some known) so.0.left so.0.mid waited before from number left now (waited + 10) last so.1 run some
+            (Pause known last refl (is_most _ _ less) waits),
+      )
       | false ↦ λ late.
           NotWaited so.0.asks.0 so.0.left so.0.mid (Late waited) left now so.0.asks.1
           (waiting-late allows entries (Some known) so.0.left so.0.mid waited before from number left now (Late waited) now so.1 run some (NoTime known refl (is_not_most _ _ late)))
     ] refl
 
-checked : {W : Type 0} (allows : W → Call → W → Type 0) (entries : List Entry) (command : Command) (timings : Option (ℕ × ℕ)) (budget : ℕ) (first : W) (waited before : ℕ) (from : W) (number left : ℕ) (now : W) →
+checked : {W : Type 0} (allows : W → Call → W → Type 0) (entries : List Entry) (command : Command) (timings : Option (ℕ × ℕ)) (budget : ℕ) (first : W)
+    (waited before : ℕ) (from : W) (number left : ℕ) (now : W) →
     Reached allows entries command timings budget first (Checking waited) before from → Performs allows entries CheckBusyStatus 0 before from (Ok number) left now →
     Reached allows entries command timings budget first (if number == 0 then Judging else busy timings waited) left now
 checked allows entries command timings budget first waited before from number left now so run =
@@ -110,30 +117,37 @@ RunOf allows entries command Judging before from answer after now = Performs all
 RunOf allows entries command (Ending outcome) before from answer after now = Performs allows entries EndOperation 0 64 from answer after now
 RunOf allows entries command (Done result) before from answer after now = ⊥
 
-performs_of : {W : Type 0} (allows : W → Call → W → Type 0) (entries : List Entry) (request mine : Request) (before : ℕ) (from : W) (answer : Result ℕ RunStop) (after : ℕ) (now : W) → Some mine ≡ Some request →
+performs_of : {W : Type 0} (allows : W → Call → W → Type 0) (entries : List Entry) (request mine : Request) (before : ℕ) (from : W) (answer : Result ℕ RunStop)
+    (after : ℕ) (now : W) → Some mine ≡ Some request →
     Performs allows entries request.action request.given before from answer after now → Performs allows entries mine.action mine.given before from answer after now
 performs_of allows entries request mine before from answer after now same run =
     subst (λ (r : Request). Performs allows entries r.action r.given before from answer after now) (sym (same_Some _ _ same)) run
 
-pub run_of : {W : Type 0} (allows : W → Call → W → Type 0) (entries : List Entry) (command : Command) (stage : Stage) (request : Request) (before : ℕ) (from : W) (answer : Result ℕ RunStop) (after : ℕ) (now : W) →
+pub run_of : {W : Type 0} (allows : W → Call → W → Type 0) (entries : List Entry) (command : Command) (stage : Stage) (request : Request) (before : ℕ)
+    (from : W) (answer : Result ℕ RunStop) (after : ℕ) (now : W) →
     request_for command stage ≡ Some request → Performs allows entries request.action request.given (steps_for stage before) from answer after now →
     RunOf allows entries command stage before from answer after now
 run_of allows entries command (Requesting part) request before from answer after now is run = performs_of allows entries request (request_of command part) before from answer after now is run
-run_of allows entries command (Checking waited) request before from answer after now is run = performs_of allows entries request (record { action = CheckBusyStatus; given = 0 }) before from answer after now is run
+run_of allows entries command (Checking waited) request before from answer after now is run =
+    performs_of allows entries request (record { action = CheckBusyStatus; given = 0 }) before from answer after now is run
 run_of allows entries command (Waiting longer) request before from answer after now is run = absurd (none-some request is)
-run_of allows entries command Judging request before from answer after now is run = performs_of allows entries request (record { action = GetCommandStatus; given = 0 }) before from answer after now is run
-run_of allows entries command (Ending outcome) request before from answer after now is run = performs_of allows entries request (record { action = EndOperation; given = 0 }) 64 from answer after now is run
+run_of allows entries command Judging request before from answer after now is run =
+    performs_of allows entries request (record { action = GetCommandStatus; given = 0 }) before from answer after now is run
+run_of allows entries command (Ending outcome) request before from answer after now is run =
+    performs_of allows entries request (record { action = EndOperation; given = 0 }) 64 from answer after now is run
 run_of allows entries command (Done result) request before from answer after now is run = absurd (none-some request is)
 
 -- the end of a run leads on
-reached_after : {W : Type 0} (allows : W → Call → W → Type 0) (entries : List Entry) (command : Command) (timings : Option (ℕ × ℕ)) (budget : ℕ) (first : W) (stage : Stage) (before : ℕ) (from : W) (answer : Result ℕ RunStop)
+reached_after : {W : Type 0} (allows : W → Call → W → Type 0) (entries : List Entry) (command : Command) (timings : Option (ℕ × ℕ)) (budget : ℕ) (first : W)
+    (stage : Stage) (before : ℕ) (from : W) (answer : Result ℕ RunStop)
     (after : ℕ) (now : W) → Reached allows entries command timings budget first stage before from → RunOf allows entries command stage before from answer after now →
     Reached allows entries command timings budget first (turned command timings stage answer) (steps_after stage before after) now
 reached_after allows entries command timings budget first (Requesting part) before from (Ok number) after now so run =
     requested allows entries command timings budget first part before from number after now (next_part command part) (rest_is command part) so run
 reached_after allows entries command timings budget first (Requesting part) before from (Err stop) after now so run =
     NotAsked stop after now (so.all (Err stop) after now (StopsHere (request_of command part) (rest_of command part) before from stop after now run))
-reached_after allows entries command timings budget first (Checking waited) before from (Ok number) after now so run = checked allows entries command timings budget first waited before from number after now so run
+reached_after allows entries command timings budget first (Checking waited) before from (Ok number) after now so run = checked allows entries command timings
+    budget first waited before from number after now so run
 reached_after allows entries command timings budget first (Checking waited) before from (Err stop) after now so run =
     NotWaited so.0.asks.0 so.0.left so.0.mid (Stopped stop) after now so.0.asks.1 (IsStopped so.1.busy before from stop after now so.1.runs run)
 reached_after allows entries command timings budget first (Waiting longer) before from answer after now so run = absurd run
@@ -151,7 +165,8 @@ reached_after allows entries command timings budget first (Ending (Err error)) b
     record { outcome = Err error; told = from; ended = Err stop; spare = after; until_status = so; ends = run; result_is = refl }
 reached_after allows entries command timings budget first (Done result) before from answer after now so run = absurd run
 
-pub reached_run : {W : Type 0} (allows : W → Call → W → Type 0) (entries : List Entry) (command : Command) (timings : Option (ℕ × ℕ)) (budget : ℕ) (first : W) (stage : Stage) (request : Request) (before : ℕ) (from : W)
+pub reached_run : {W : Type 0} (allows : W → Call → W → Type 0) (entries : List Entry) (command : Command) (timings : Option (ℕ × ℕ)) (budget : ℕ) (first : W)
+    (stage : Stage) (request : Request) (before : ℕ) (from : W)
     (answer : Result ℕ RunStop) (after : ℕ) (now : W) → request_for command stage ≡ Some request → Reached allows entries command timings budget first stage before from →
     Performs allows entries request.action request.given (steps_for stage before) from answer after now →
     Reached allows entries command timings budget first (turned command timings stage answer) (steps_after stage before after) now
@@ -217,7 +232,8 @@ rank_checked : (timings : Option (ℕ × ℕ)) (waited number : ℕ) → stage_r
 rank_checked timings waited number =
     elim (number == 0) as (λ (b : Bool). stage_rank (if b then Judging else busy timings waited) ≤ 4) [ true ↦ omega arith | false ↦ rank_busy timings waited ]
 
-weight_after : {W : Type 0} (allows : W → Call → W → Type 0) (entries : List Entry) (command : Command) (timings : Option (ℕ × ℕ)) (stage : Stage) (before : ℕ) (from : W) (answer : Result ℕ RunStop) (after : ℕ) (now : W) →
+weight_after : {W : Type 0} (allows : W → Call → W → Type 0) (entries : List Entry) (command : Command) (timings : Option (ℕ × ℕ)) (stage : Stage) (before : ℕ)
+    (from : W) (answer : Result ℕ RunStop) (after : ℕ) (now : W) →
     RunOf allows entries command stage before from answer after now → weight (turned command timings stage answer) (steps_after stage before after) < weight stage before
 weight_after allows entries command timings (Requesting part) before from (Ok number) after now run =
     omega (arith, weight_asked command part, run_spends allows (program_of (code_of (request_of command part).action) entries) (request_of command part).given before from (Ok number) after now run)
@@ -250,17 +266,20 @@ runs_plain allows entries (Ending outcome) request before from answer after now 
 runs_plain allows entries (Done result) request before from answer after now plain run = record { after = after; left_is = refl; performs = run }
 
 -- the same in the pieces that the loop over the stages has
-pub reached_on : {W : Type 0} (allows : W → Call → W → Type 0) (entries : List Entry) (command : Command) (timings : Option (ℕ × ℕ)) (budget : ℕ) (first : W) (stage : Stage) (request : Request) (before : ℕ) (from : W)
+pub reached_on : {W : Type 0} (allows : W → Call → W → Type 0) (entries : List Entry) (command : Command) (timings : Option (ℕ × ℕ)) (budget : ℕ) (first : W)
+    (stage : Stage) (request : Request) (before : ℕ) (from : W)
     (answer : Result ℕ RunStop) (left : ℕ) (now : W) (next : Stage) → request_for command stage ≡ Some request → Reached allows entries command timings budget first stage before from →
     Runs allows entries stage request before from answer left now → next ≡ turned command timings stage answer → Reached allows entries command timings budget first next left now
 reached_on allows entries command timings budget first stage request before from answer left now next is so runs next_is =
     rw next_is (rw runs.left_is (reached_run allows entries command timings budget first stage request before from answer runs.after now is so runs.performs))
 
-pub weight_falls : {W : Type 0} (allows : W → Call → W → Type 0) (entries : List Entry) (command : Command) (timings : Option (ℕ × ℕ)) (stage : Stage) (request : Request) (before : ℕ) (from : W) (answer : Result ℕ RunStop)
+pub weight_falls : {W : Type 0} (allows : W → Call → W → Type 0) (entries : List Entry) (command : Command) (timings : Option (ℕ × ℕ)) (stage : Stage)
+    (request : Request) (before : ℕ) (from : W) (answer : Result ℕ RunStop)
     (left : ℕ) (now : W) (next : Stage) → request_for command stage ≡ Some request → Runs allows entries stage request before from answer left now → next ≡ turned command timings stage answer →
     weight next left < weight stage before
 weight_falls allows entries command timings stage request before from answer left now next is runs next_is =
-    rw next_is (rw runs.left_is (weight_after allows entries command timings stage before from answer runs.after now (run_of allows entries command stage request before from answer runs.after now is runs.performs)))
+    rw next_is (rw runs.left_is (weight_after allows entries command timings stage before from answer runs.after now
+    (run_of allows entries command stage request before from answer runs.after now is runs.performs)))
 
 -- how many runs follow at most before a wait or the end
 abbrev pub run_rank : Stage → ℕ

@@ -50,7 +50,8 @@ at_start : {W : Type 0} (allows : W → Call → W → Type 0) (call : Call) (no
 at_start {W = W} allows call now first last is h = subst (λ (w : W). allows w call last) is h
 
 pub write_answers : {W : Type 0} (allows : W → Call → W → Type 0) (client : ClientState) (bytes : List ℕ) (steps : ℕ) (first : W) (at : Writing) (now : W) (answer : Result ℕ SpaceFault) (last : W) →
-    WriteStands allows client bytes steps first at now → WriteMade allows client bytes at now answer last → WriteStands allows client bytes steps first (write_answered client.table.entries steps at answer) last
+    WriteStands allows client bytes steps first at now → WriteMade allows client bytes at now answer last → WriteStands allows client bytes steps first
+    (write_answered client.table.entries steps at answer) last
 write_answers allows client bytes steps first Record now (Ok number) last so made = (so.0, at_start allows _ now first last so.1 made)
 write_answers allows client bytes steps first Record now (Err fault) last so made = IsNotPut (Range fault) last so.0 (NotPut fault last (at_start allows _ now first last so.1 made))
 write_answers allows client bytes steps first Mark now (Ok number) last so made =

@@ -43,7 +43,8 @@ pub data Puts {W : Type 0} (allows : W → Call → W → Type 0) (address : ℕ
 
 pub data Writes {W : Type 0} (allows : W → Call → W → Type 0) (client : ClientState) (bytes : List ℕ) (budget : ℕ) (old : W) : Result (Unit {0}) ClientError → ℕ → W → Type 0 where
   IsNoRecord : (error : ClientError) → write_refusal bytes client.range ≡ Some error → Writes allows client bytes budget old (Err error) budget old
-  IsNotPut : (error : ClientError) (last : W) → write_refusal bytes client.range ≡ None → Puts allows client.address bytes old (Err error) last → Writes allows client bytes budget old (Err error) budget last
+  IsNotPut : (error : ClientError) (last : W) → write_refusal bytes client.range ≡ None → Puts allows client.address bytes old (Err error) last →
+      Writes allows client bytes budget old (Err error) budget last
   IsAsked : (mid : W) (result : Result (Unit {0}) ClientError) (left : ℕ) (last : W) → write_refusal bytes client.range ≡ None → Puts allows client.address bytes old (Ok tt) mid →
       Sequence allows client.table.entries client.timings write_requests budget mid result left last → Writes allows client bytes budget old result left last
 

@@ -113,12 +113,14 @@ is_settled_finding (Ended result left) = true
 -- from one program to the next without an access
 pub data FindingMoves (entries : List Entry) (first : Finding) : Finding → Type 0 where
   IsThere : FindingMoves entries first first
-  IsHeard : (at : Finding) (old asking : Asking) (answer : Result ℕ RunStop) → FindingMoves entries first at → asking_in at ≡ Some old → AskingMoves entries old asking → ended asking.state ≡ Some answer →
+  IsHeard : (at : Finding) (old asking : Asking) (answer : Result ℕ RunStop) → FindingMoves entries first at → asking_in at ≡ Some old →
+      AskingMoves entries old asking → ended asking.state ≡ Some answer →
       FindingMoves entries first (heard_in entries at answer asking.left)
   GoesOn : (at : Finding) (old asking : Asking) → FindingMoves entries first at → asking_in at ≡ Some old → AskingMoves entries old asking → FindingMoves entries first (with_asking at asking)
 
 -- the requests `asked` were answered so, and the program of one more stands here
-pub record IsAsking {W : Type 0} (allows : W → Call → W → Type 0) (entries : List Entry) (steps : ℕ) (first : W) (asked : List Request) (told : List ℕ) (action : Action) (asking : Asking) (now : W) : Type 0 where
+pub record IsAsking {W : Type 0} (allows : W → Call → W → Type 0) (entries : List Entry) (steps : ℕ) (first : W) (asked : List Request) (told : List ℕ)
+    (action : Action) (asking : Asking) (now : W) : Type 0 where
   pub before : ℕ
   pub mid : W
   pub asks : Asks allows entries asked steps first (Ok told) before mid
@@ -136,7 +138,8 @@ FindingStands allows erst steps first (Attributes address len asking) now =
     IsAsking allows erst.entries steps first (plain GetErrorLogAddressRange ∷ plain GetErrorLogAddressRangeLength ∷ []) (address ∷ len ∷ []) GetErrorLogAddressRangeAttributes asking now
 FindingStands allows erst steps first (Timings address len attributes asking) now =
     (length (entries_of (code_of GetExecuteOperationTimings) erst.entries) ≡ 0 → ⊥)
-    × IsAsking allows erst.entries steps first (plain GetErrorLogAddressRange ∷ plain GetErrorLogAddressRangeLength ∷ plain GetErrorLogAddressRangeAttributes ∷ []) (address ∷ len ∷ attributes ∷ []) GetExecuteOperationTimings asking now
+    × IsAsking allows erst.entries steps first (plain GetErrorLogAddressRange ∷ plain GetErrorLogAddressRangeLength ∷ plain GetErrorLogAddressRangeAttributes ∷
+    []) (address ∷ len ∷ attributes ∷ []) GetExecuteOperationTimings asking now
 FindingStands allows erst steps first (Ended result left) now = Attaches allows erst steps first (client_result erst result) left now
 
 -- what the access that it tells, with its answer, does to a space

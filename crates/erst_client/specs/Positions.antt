@@ -92,7 +92,8 @@ abbrev pub MadeAt : {W : Type 0} → (W → Call → W → Type 0) → Option (�
 MadeAt allows timings at now answer last = MadeIn allows timings at.stage at.state now answer last
 
 -- the run of a stage, which began in `from`, stands here
-pub record IsRunning {W : Type 0} (allows : W → Call → W → Type 0) (entries : List Entry) (command : Command) (timings : Option (ℕ × ℕ)) (budget : ℕ) (first : W) (request : Request) (stage : Stage) (state : RunState)
+pub record IsRunning {W : Type 0} (allows : W → Call → W → Type 0) (entries : List Entry) (command : Command) (timings : Option (ℕ × ℕ)) (budget : ℕ)
+    (first : W) (request : Request) (stage : Stage) (state : RunState)
     (left kept : ℕ) (now : W) : Type 0 where
   pub from : W
   pub reached : Reached allows entries command timings budget first stage kept from

@@ -25,7 +25,8 @@ steps_after (Ending outcome) before after = before
 steps_after stage before after = after
 
 -- the run of a stage
-pub record Runs {W : Type 0} (allows : W → Call → W → Type 0) (entries : List Entry) (stage : Stage) (request : Request) (before : ℕ) (from : W) (answer : Result ℕ RunStop) (left : ℕ) (now : W) : Type 0 where
+pub record Runs {W : Type 0} (allows : W → Call → W → Type 0) (entries : List Entry) (stage : Stage) (request : Request) (before : ℕ) (from : W)
+    (answer : Result ℕ RunStop) (left : ℕ) (now : W) : Type 0 where
   pub after : ℕ
   pub left_is : left ≡ steps_after stage before after
   pub performs : Performs allows entries request.action request.given (steps_for stage before) from answer after now

@@ -2,7 +2,9 @@
 -- (ACPI 6.4, section 18.5.2).
 use Rattle.std.specs.Prelude.{◌≡◌, ℕ, suc, ◌-◌, ◌*◌, ◌<◌, ◌≤◌, ◌==◌, if◌then◌else◌, List, [], ◌∷◌, Option, Some, None, Result, Ok, Err}
 use Rattle.apei_space.specs.Calls.{Call, Wait}
-use Rattle.erst_entries.specs.declared.actions.Action.TheVariants.{BeginWriteOperation, BeginReadOperation, BeginClearOperation, BeginDummyWriteOperation, SetRecordOffset, SetRecordIdentifier, ExecuteOperation, CheckBusyStatus, GetCommandStatus, EndOperation}
+use Rattle.erst_entries.specs.declared.actions.Action.TheVariants.{BeginWriteOperation, BeginReadOperation, BeginClearOperation, BeginDummyWriteOperation}
+use Rattle.erst_entries.specs.declared.actions.Action.TheVariants.{SetRecordOffset, SetRecordIdentifier, ExecuteOperation, CheckBusyStatus, GetCommandStatus}
+use Rattle.erst_entries.specs.declared.actions.Action.TheVariants.{EndOperation}
 use Rattle.erst_entries.specs.declared.entries.Entry.{Entry}
 use Rattle.erst_interp.specs.declared.stops.RunStop.{RunStop}
 use Rattle.erst_client.specs.declared.errors.ClientError.{ClientError}
@@ -63,7 +65,8 @@ judged status =
 -- a command up to its status
 pub data UntilStatus {W : Type 0} (allows : W → Call → W → Type 0) (entries : List Entry) (timings : Option (ℕ × ℕ)) (requests : List Request) (budget : ℕ) (first : W) :
     Result (Unit {0}) ClientError → ℕ → W → Type 0 where
-  NotAsked : (stop : RunStop) (left : ℕ) (last : W) → Asks allows entries requests budget first (Err stop) left last → UntilStatus allows entries timings requests budget first (Err (Stopped stop)) left last
+  NotAsked : (stop : RunStop) (left : ℕ) (last : W) → Asks allows entries requests budget first (Err stop) left last →
+      UntilStatus allows entries timings requests budget first (Err (Stopped stop)) left last
   NotWaited : (answers : List ℕ) (asked : ℕ) (mid : W) (error : ClientError) (left : ℕ) (last : W) → Asks allows entries requests budget first (Ok answers) asked mid →
       Waits allows entries timings asked mid (Err error) left last → UntilStatus allows entries timings requests budget first (Err error) left last
   NotTold : (answers : List ℕ) (asked : ℕ) (mid : W) (waited : ℕ) (idle : W) (stop : RunStop) (left : ℕ) (last : W) → Asks allows entries requests budget first (Ok answers) asked mid →

@@ -1,6 +1,8 @@
 -- The stages of a command, and what follows on each run of a program.
 use Rattle.std.specs.Prelude.{ℕ, ◌+◌, ◌^◌, ◌==◌, nat_le, if◌then◌else◌, Bool, true, List, [], ◌∷◌, Option, Some, None, Result, Ok, Err}
-use Rattle.erst_entries.specs.declared.actions.Action.TheVariants.{BeginWriteOperation, BeginReadOperation, BeginClearOperation, BeginDummyWriteOperation, SetRecordOffset, SetRecordIdentifier, ExecuteOperation, CheckBusyStatus, GetCommandStatus, EndOperation}
+use Rattle.erst_entries.specs.declared.actions.Action.TheVariants.{BeginWriteOperation, BeginReadOperation, BeginClearOperation, BeginDummyWriteOperation}
+use Rattle.erst_entries.specs.declared.actions.Action.TheVariants.{SetRecordOffset, SetRecordIdentifier, ExecuteOperation, CheckBusyStatus, GetCommandStatus}
+use Rattle.erst_entries.specs.declared.actions.Action.TheVariants.{EndOperation}
 use Rattle.erst_interp.specs.declared.stops.RunStop.{RunStop}
 use Rattle.erst_client.specs.declared.errors.ClientError.TheVariants.{Stopped, Late}
 use Rattle.erst_client.specs.declared.requests.Request.{Request}

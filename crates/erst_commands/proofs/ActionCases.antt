@@ -4,13 +4,16 @@ use Rattle.std.proofs.lemmas.Option.{none-some, same_Some}
 use Rattle.record_store.specs.Store.{StoreView, IsBusy}
 use Rattle.record_store.specs.declared.errors.StoreError.{StoreError}
 use Rattle.erst_entries.specs.declared.actions.Action.{Action}
-use Rattle.erst_entries.specs.declared.actions.Action.TheVariants.{BeginWriteOperation, BeginReadOperation, BeginClearOperation, EndOperation, SetRecordOffset, ExecuteOperation, CheckBusyStatus, GetRecordIdentifier, SetRecordIdentifier, GetRecordCount, BeginDummyWriteOperation}
+use Rattle.erst_entries.specs.declared.actions.Action.TheVariants.{BeginWriteOperation, BeginReadOperation, BeginClearOperation, EndOperation, SetRecordOffset}
+use Rattle.erst_entries.specs.declared.actions.Action.TheVariants.{ExecuteOperation, CheckBusyStatus, GetRecordIdentifier, SetRecordIdentifier, GetRecordCount}
+use Rattle.erst_entries.specs.declared.actions.Action.TheVariants.{BeginDummyWriteOperation}
 use Rattle.erst_device.specs.declared.registers.Operation.{Operation}
 use Rattle.erst_device.specs.declared.status.CommandStatus.TheVariants.{Success}
 use Rattle.erst_device.specs.StoreCalls.{Stepped, ReadOut, FoundNext, Counted}
 use Rattle.erst_device.specs.DeviceState.{DeviceState, IsStill, IsRunning, Reads, Changes, given_up}
 use Rattle.erst_device.specs.Starts.{Starts}
-use Rattle.erst_device.specs.Actions.{told_by, begun_by, waits, stepped, shown, found, counted, Acts, Begins, Ends, SetsOffset, SetsId, Waits, Executes, NoneRuns, Steps, Shows, Tells, FindsNext, Counts, Ignores}
+use Rattle.erst_device.specs.Actions.{told_by, begun_by, waits, stepped, shown, found, counted, Acts, Begins, Ends, SetsOffset, SetsId, Waits, Executes}
+use Rattle.erst_device.specs.Actions.{NoneRuns, Steps, Shows, Tells, FindsNext, Counts, Ignores}
 use Rattle.erst_commands.proofs.SharedLemmas.{idle_busy}
 use Rattle.erst_device.proofs.Words.{IsAllowed}
 
@@ -101,7 +104,8 @@ one_begun old range action operation by none = record {
   tells = λ number told. absurd (none-some number (sym none ∙ told));
 }
 
-begins_outcome : (tells : Type 0) (old : DeviceState) (range : List ℕ) (action : Action) (operation : Operation) → begun_by action ≡ Some operation → Outcome tells old range (Some action) (begun old operation) range
+begins_outcome : (tells : Type 0) (old : DeviceState) (range : List ℕ) (action : Action) (operation : Operation) → begun_by action ≡ Some operation →
+    Outcome tells old range (Some action) (begun old operation) range
 begins_outcome tells old range BeginWriteOperation operation by = one_begun old range BeginWriteOperation operation by refl
 begins_outcome tells old range BeginReadOperation operation by = one_begun old range BeginReadOperation operation by refl
 begins_outcome tells old range BeginClearOperation operation by = one_begun old range BeginClearOperation operation by refl
@@ -116,7 +120,8 @@ one_told old range action number told none = record {
   tells = λ other also. record { new_is = ap (λ (n : ℕ). record old { value = n }) (same_Some _ _ (sym told ∙ also)); range_is = refl };
 }
 
-tells_outcome : (tells : Type 0) (old : DeviceState) (range : List ℕ) (action : Action) (number : ℕ) → told_by action old.status old.store.layout ≡ Some number → Outcome tells old range (Some action) (record old { value = number }) range
+tells_outcome : (tells : Type 0) (old : DeviceState) (range : List ℕ) (action : Action) (number : ℕ) → told_by action old.status old.store.layout ≡ Some number
+    → Outcome tells old range (Some action) (record old { value = number }) range
 tells_outcome tells old range BeginWriteOperation number told = absurd (cc)
 tells_outcome tells old range BeginReadOperation number told = absurd (cc)
 tells_outcome tells old range BeginClearOperation number told = absurd (cc)
@@ -136,7 +141,8 @@ waits_outcome tells old range SetRecordIdentifier w runs = λ still. absurd (not
 waits_outcome tells old range ExecuteOperation w runs = λ still. absurd (not_both old still runs)
 waits_outcome tells old range action w runs = absurd (cc)
 
-outcome : (tells : Type 0) (old : DeviceState) (range : List ℕ) (which : Option Action) (new : DeviceState) (after : List ℕ) → Acts tells old range which new after → Outcome tells old range which new after
+outcome : (tells : Type 0) (old : DeviceState) (range : List ℕ) (which : Option Action) (new : DeviceState) (after : List ℕ) →
+    Acts tells old range which new after → Outcome tells old range which new after
 outcome tells old range which new after acts = elim acts as (λ which new after acts. Outcome tells old range which new after) [
   | Begins action operation by ↦ begins_outcome tells old range action operation by
   | Ends ↦ become _ range
@@ -175,7 +181,8 @@ outcome tells old range which new after acts = elim acts as (λ which new after 
 ]
 
 -- a beginning
-begins_of : (tells : Type 0) (old : DeviceState) (range : List ℕ) (new : DeviceState) (after : List ℕ) (action : Action) (operation : Operation) → begun_by action ≡ Some operation → Outcome tells old range (Some action) new after → Becomes (begun old operation) range new after
+begins_of : (tells : Type 0) (old : DeviceState) (range : List ℕ) (new : DeviceState) (after : List ℕ) (action : Action) (operation : Operation) →
+    begun_by action ≡ Some operation → Outcome tells old range (Some action) new after → Becomes (begun old operation) range new after
 begins_of tells old range new after BeginWriteOperation operation by leaves = leaves.begins operation by
 begins_of tells old range new after BeginReadOperation operation by leaves = leaves.begins operation by
 begins_of tells old range new after BeginClearOperation operation by leaves = leaves.begins operation by
@@ -203,29 +210,37 @@ pub tells_number : (tells : Type 0) (action : Action) (number : ℕ) (old : Devi
 tells_number tells action number old range new after told acts = told_of tells old range new after action number told (outcome tells old range (Some action) new after acts)
 
 -- the other actions, each by its name
-pub ends : (tells : Type 0) (old : DeviceState) (range : List ℕ) (new : DeviceState) (after : List ℕ) → Acts tells old range (Some EndOperation) new after → Becomes (record (given_up old) { operation = None }) range new after
+pub ends : (tells : Type 0) (old : DeviceState) (range : List ℕ) (new : DeviceState) (after : List ℕ) → Acts tells old range (Some EndOperation) new after →
+    Becomes (record (given_up old) { operation = None }) range new after
 ends tells old range new after acts = outcome tells old range (Some EndOperation) new after acts
 
-pub sets_offset : (tells : Type 0) (old : DeviceState) (range : List ℕ) (new : DeviceState) (after : List ℕ) → IsStill old → Acts tells old range (Some SetRecordOffset) new after → Becomes (record old { offset = old.value }) range new after
+pub sets_offset : (tells : Type 0) (old : DeviceState) (range : List ℕ) (new : DeviceState) (after : List ℕ) → IsStill old →
+    Acts tells old range (Some SetRecordOffset) new after → Becomes (record old { offset = old.value }) range new after
 sets_offset tells old range new after still acts = outcome tells old range (Some SetRecordOffset) new after acts still
 
-pub sets_id : (tells : Type 0) (old : DeviceState) (range : List ℕ) (new : DeviceState) (after : List ℕ) → IsStill old → Acts tells old range (Some SetRecordIdentifier) new after → Becomes (record old { id = old.value }) range new after
+pub sets_id : (tells : Type 0) (old : DeviceState) (range : List ℕ) (new : DeviceState) (after : List ℕ) → IsStill old →
+    Acts tells old range (Some SetRecordIdentifier) new after → Becomes (record old { id = old.value }) range new after
 sets_id tells old range new after still acts = outcome tells old range (Some SetRecordIdentifier) new after acts still
 
-pub executes : (tells : Type 0) (old : DeviceState) (range : List ℕ) (new : DeviceState) (after : List ℕ) → IsStill old → Acts tells old range (Some ExecuteOperation) new after → StartsWith tells old range new after
+pub executes : (tells : Type 0) (old : DeviceState) (range : List ℕ) (new : DeviceState) (after : List ℕ) → IsStill old →
+    Acts tells old range (Some ExecuteOperation) new after → StartsWith tells old range new after
 executes tells old range new after still acts = outcome tells old range (Some ExecuteOperation) new after acts still
 
-pub finds_next : (tells : Type 0) (old : DeviceState) (range : List ℕ) (new : DeviceState) (after : List ℕ) → Acts tells old range (Some GetRecordIdentifier) new after → LookMade tells old range new after
+pub finds_next : (tells : Type 0) (old : DeviceState) (range : List ℕ) (new : DeviceState) (after : List ℕ) → Acts tells old range (Some GetRecordIdentifier)
+    new after → LookMade tells old range new after
 finds_next tells old range new after acts = outcome tells old range (Some GetRecordIdentifier) new after acts
 
 pub counts : (tells : Type 0) (old : DeviceState) (range : List ℕ) (new : DeviceState) (after : List ℕ) → Acts tells old range (Some GetRecordCount) new after → CountMade tells old range new after
 counts tells old range new after acts = outcome tells old range (Some GetRecordCount) new after acts
 
-pub checks_still : (tells : Type 0) (old : DeviceState) (range : List ℕ) (new : DeviceState) (after : List ℕ) → IsStill old → Acts tells old range (Some CheckBusyStatus) new after → Becomes (record old { value = 0 }) range new after
+pub checks_still : (tells : Type 0) (old : DeviceState) (range : List ℕ) (new : DeviceState) (after : List ℕ) → IsStill old →
+    Acts tells old range (Some CheckBusyStatus) new after → Becomes (record old { value = 0 }) range new after
 checks_still tells old range new after still acts = (outcome tells old range (Some CheckBusyStatus) new after acts).still still
 
-pub checks_busy : (tells : Type 0) (old : DeviceState) (range : List ℕ) (new : DeviceState) (after : List ℕ) → IsBusy old.store.pending → old.reading ≡ None → Acts tells old range (Some CheckBusyStatus) new after → StepMade tells old range new after
+pub checks_busy : (tells : Type 0) (old : DeviceState) (range : List ℕ) (new : DeviceState) (after : List ℕ) → IsBusy old.store.pending → old.reading ≡ None →
+    Acts tells old range (Some CheckBusyStatus) new after → StepMade tells old range new after
 checks_busy tells old range new after busy none acts = (outcome tells old range (Some CheckBusyStatus) new after acts).busy busy none
 
-pub checks_reading : (tells : Type 0) (old : DeviceState) (range : List ℕ) (new : DeviceState) (after : List ℕ) → (id : ℕ) → old.reading ≡ Some id → Acts tells old range (Some CheckBusyStatus) new after → ReadShown tells old range id new after
+pub checks_reading : (tells : Type 0) (old : DeviceState) (range : List ℕ) (new : DeviceState) (after : List ℕ) → (id : ℕ) → old.reading ≡ Some id →
+    Acts tells old range (Some CheckBusyStatus) new after → ReadShown tells old range id new after
 checks_reading tells old range new after id is acts = (outcome tells old range (Some CheckBusyStatus) new after acts).reading id is

@@ -12,12 +12,15 @@ with_answer answer (Ok answers) = Ok (answer ∷ answers)
 with_answer answer (Err stop) = Err stop
 
 -- the first request was answered, or stopped
-pub data FirstAsked {W : Type 0} (allows : W → Call → W → Type 0) (entries : List Entry) (request : Request) (rest : List Request) (budget : ℕ) (old : W) (result : Result (List ℕ) RunStop) (left : ℕ) (last : W) : Type 0 where
+pub data FirstAsked {W : Type 0} (allows : W → Call → W → Type 0) (entries : List Entry) (request : Request) (rest : List Request) (budget : ℕ) (old : W)
+    (result : Result (List ℕ) RunStop) (left : ℕ) (last : W) : Type 0 where
   Went : (answer asked : ℕ) (mid : W) (others : Result (List ℕ) RunStop) → Performs allows entries request.action request.given budget old (Ok answer) asked mid
       → Asks allows entries rest asked mid others left last → result ≡ with_answer answer others → FirstAsked allows entries request rest budget old result left last
-  Halted : (stop : RunStop) → Performs allows entries request.action request.given budget old (Err stop) left last → result ≡ Err stop → FirstAsked allows entries request rest budget old result left last
+  Halted : (stop : RunStop) → Performs allows entries request.action request.given budget old (Err stop) left last → result ≡ Err stop →
+      FirstAsked allows entries request rest budget old result left last
 
-pub first_asked : {W : Type 0} (allows : W → Call → W → Type 0) (entries : List Entry) (request : Request) (rest : List Request) (budget : ℕ) (old : W) (result : Result (List ℕ) RunStop) (left : ℕ) (last : W)
+pub first_asked : {W : Type 0} (allows : W → Call → W → Type 0) (entries : List Entry) (request : Request) (rest : List Request) (budget : ℕ) (old : W)
+    (result : Result (List ℕ) RunStop) (left : ℕ) (last : W)
     → Asks allows entries (request ∷ rest) budget old result left last → FirstAsked allows entries request rest budget old result left last
 first_asked allows entries request rest budget old result left last (Answered r rs b o answer asked mid answers after l run more) = Went answer asked mid (Ok answers) run more refl
 first_asked allows entries request rest budget old result left last (StopsLater r rs b o answer asked mid stop after l run more) = Went answer asked mid (Err stop) run more refl
@@ -29,6 +32,7 @@ pub record NoneAsked {W : Type 0} (budget : ℕ) (old : W) (result : Result (Lis
   pub left_is : left ≡ budget
   pub last_is : last ≡ old
 
-pub none_asked : {W : Type 0} (allows : W → Call → W → Type 0) (entries : List Entry) (budget : ℕ) (old : W) (result : Result (List ℕ) RunStop) (left : ℕ) (last : W) → Asks allows entries [] budget old result left last
+pub none_asked : {W : Type 0} (allows : W → Call → W → Type 0) (entries : List Entry) (budget : ℕ) (old : W) (result : Result (List ℕ) RunStop) (left : ℕ)
+    (last : W) → Asks allows entries [] budget old result left last
     → NoneAsked budget old result left last
 none_asked allows entries budget old result left last (NoneLeft b o) = record { result_is = refl; left_is = refl; last_is = refl }

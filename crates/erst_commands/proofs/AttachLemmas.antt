@@ -50,9 +50,12 @@ same_answer x y e = cc
 abbrev Says : Action → (DeviceState → ℕ) → Type 0
 Says action value = (device : DeviceState) → told_by action device.status device.store.layout ≡ Some (value device)
 
-module _ (tells : Type 0) (own : OwnProgramsRun tells) (action : Action) (value : DeviceState → ℕ) (says : Says action value) (code : action_of (code_of action) ≡ Some action) (two : steps_of own_entries action ≡ 2) (takes : (given : ℕ) (m : MachineState) → given_to action given m ≡ m)
+module _ (tells : Type 0) (own : OwnProgramsRun tells) (action : Action) (value : DeviceState → ℕ) (says : Says action value)
+    (code : action_of (code_of action) ≡ Some action) (two : steps_of own_entries action ≡ 2) (takes : (given : ℕ) (m : MachineState) → given_to action given m
+    ≡ m)
     (shows : (given v : ℕ) → answer_of action given v ≡ v % 2 ^ 64) where
-  is_told : (budget before : ℕ) (base old : MachineState) (result : Result ℕ RunStop) (left : ℕ) (last : MachineState) → 2 ≤ budget → old ≡ with_value before base → value old.device ≡ value base.device
+  is_told : (budget before : ℕ) (base old : MachineState) (result : Result ℕ RunStop) (left : ℕ) (last : MachineState) → 2 ≤ budget →
+      old ≡ with_value before base → value old.device ≡ value base.device
       → Performs (Allows tells) own_entries action 0 budget old result left last → (result ≡ Ok (value base.device % 2 ^ 64)) × (left + 2 ≡ budget) × (last ≡ with_value (value base.device) base)
   is_told budget before base old result left last enough old_is same run =
       let made = has_steps tells action 0 budget old result left last enough (own action 0 budget old result left last run) in
@@ -69,7 +72,8 @@ stop_no : (answer : ℕ) (stop : RunStop) → Err stop ≡ Ok answer → ⊥
 stop_no answer stop e = absurd (cc)
 
 -- the client of the four answers
-judged_own : (first : MachineState) (a b c d : ℕ) → a ≡ log_range_at % 2 ^ 64 → b ≡ reach_of (room_of first.device.store.layout) % 2 ^ 64 → c ≡ 0 % 2 ^ 64 → d ≡ timings_of first.device.store.layout % 2 ^ 64
+judged_own : (first : MachineState) (a b c d : ℕ) → a ≡ log_range_at % 2 ^ 64 → b ≡ reach_of (room_of first.device.store.layout) % 2 ^ 64 → c ≡ 0 % 2 ^ 64 →
+    d ≡ timings_of first.device.store.layout % 2 ^ 64
     → attached own_erst (Ok (a ∷ b ∷ c ∷ d ∷ [])) ≡ Ok (own_client first)
 judged_own first a b c d a_is b_is c_is d_is =
     let layout = first.device.store.layout in
@@ -84,15 +88,23 @@ judged_own first a b c d a_is b_is c_is d_is =
     ∙ ap (λ (n : ℕ). Ok (record { table = own_erst; address = n; range = b; timings = Some (d / 2 ^ 32, d % 2 ^ 32) })) a_is
     ∙ ap (λ (n : ℕ). Ok (record { table = own_erst; address = log_range_at; range = n; timings = Some (d / 2 ^ 32, d % 2 ^ 32) })) range
     ∙ ap (λ (n : ℕ). Ok (record { table = own_erst; address = log_range_at; range = reach_of (room_of first.device.store.layout); timings = Some (n, d % 2 ^ 32) })) greatest
-    ∙ ap (λ (n : ℕ). Ok (record { table = own_erst; address = log_range_at; range = reach_of (room_of first.device.store.layout); timings = Some (10 * most_changes first.device.store.layout, n) })) nominal
+    ∙ ap (λ (n : ℕ). Ok (record {
+      table = own_erst;
+      address = log_range_at;
+      range = reach_of (room_of first.device.store.layout);
+      timings =
+          Some (10 * most_changes first.device.store.layout, n);
+    })) nominal
 
 pub attach_own : (tells : Type 0) → OwnProgramsRun tells → (budget : ℕ) (first : MachineState) (result : Result ClientState AttachError) (left : ℕ) (last : MachineState) → 8 ≤ budget
     → Attaches (Allows tells) own_erst budget first result left last → AttachesOwn budget first result left last
 attach_own tells own budget first result left last enough attaches =
-    by_first (first_asked (Allows tells) own_entries _ _ budget first attaches.answers left last (subst (λ (rs : List Request). Asks (Allows tells) own_entries rs budget first attaches.answers left last) requests-own attaches.asks))
+    by_first (first_asked (Allows tells) own_entries _ _ budget first attaches.answers left last
+    (subst (λ (rs : List Request). Asks (Allows tells) own_entries rs budget first attaches.answers left last) requests-own attaches.asks))
   where
     told_address : (budget before : ℕ) (base old : MachineState) (result : Result ℕ RunStop) (left : ℕ) (last : MachineState) → 2 ≤ budget → old ≡ with_value before base
-        → Performs (Allows tells) own_entries GetErrorLogAddressRange 0 budget old result left last → (result ≡ Ok (log_range_at % 2 ^ 64)) × (left + 2 ≡ budget) × (last ≡ with_value log_range_at base)
+        → Performs (Allows tells) own_entries GetErrorLogAddressRange 0 budget old result left last → (result ≡ Ok (log_range_at % 2 ^ 64)) ×
+        (left + 2 ≡ budget) × (last ≡ with_value log_range_at base)
     told_address budget before base old result left last more is run =
         is_told tells own GetErrorLogAddressRange (λ d. log_range_at) (λ d. refl) refl steps_two.0 (λ given m. refl) (λ given v. refl) budget before base old result left last more is refl run
 
@@ -100,7 +112,8 @@ attach_own tells own budget first result left last enough attaches =
         → Performs (Allows tells) own_entries GetErrorLogAddressRangeLength 0 budget old result left last
         → (result ≡ Ok (reach_of (room_of base.device.store.layout) % 2 ^ 64)) × (left + 2 ≡ budget) × (last ≡ with_value (reach_of (room_of base.device.store.layout)) base)
     told_length budget before base old result left last more is run =
-        is_told tells own GetErrorLogAddressRangeLength (λ d. reach_of (room_of d.store.layout)) (λ d. refl) refl steps_two.1 (λ given m. refl) (λ given v. refl) budget before base old result left last more is
+        is_told tells own GetErrorLogAddressRangeLength (λ d. reach_of (room_of d.store.layout)) (λ d. refl) refl steps_two.1 (λ given m. refl)
+        (λ given v. refl) budget before base old result left last more is
         (ap (λ (m : MachineState). reach_of (room_of m.device.store.layout)) is) run
 
     told_attributes : (budget before : ℕ) (base old : MachineState) (result : Result ℕ RunStop) (left : ℕ) (last : MachineState) → 2 ≤ budget → old ≡ with_value before base
@@ -115,7 +128,8 @@ attach_own tells own budget first result left last enough attaches =
         is_told tells own GetExecuteOperationTimings (λ d. timings_of d.store.layout) (λ d. refl) refl steps_two.3 (λ given m. refl) (λ given v. refl) budget before base old result left last more is
         (ap (λ (m : MachineState). timings_of m.device.store.layout) is) run
 
-    by_fourth : (a b c left3 : ℕ) (w3 : MachineState) (others : Result (List ℕ) RunStop) → w3 ≡ with_value 0 first → a ≡ log_range_at % 2 ^ 64 → b ≡ reach_of (room_of first.device.store.layout) % 2 ^ 64 → c ≡ 0 % 2 ^ 64
+    by_fourth : (a b c left3 : ℕ) (w3 : MachineState) (others : Result (List ℕ) RunStop) → w3 ≡ with_value 0 first → a ≡ log_range_at % 2 ^ 64 →
+        b ≡ reach_of (room_of first.device.store.layout) % 2 ^ 64 → c ≡ 0 % 2 ^ 64
         → left3 + 6 ≡ budget → attaches.answers ≡ with_answer a (with_answer b (with_answer c others))
         → FirstAsked (Allows tells) own_entries (request_of GetExecuteOperationTimings) [] left3 w3 others left last → AttachesOwn budget first result left last
     by_fourth a b c left3 w3 others is a_is b_is c_is spent answers_are asked = elim asked [
@@ -136,7 +150,8 @@ attach_own tells own budget first result left last enough attaches =
 
     by_third : (a b left2 : ℕ) (w2 : MachineState) (others : Result (List ℕ) RunStop) → w2 ≡ with_value (reach_of (room_of first.device.store.layout)) first → a ≡ log_range_at % 2 ^ 64
         → b ≡ reach_of (room_of first.device.store.layout) % 2 ^ 64 → left2 + 4 ≡ budget → attaches.answers ≡ with_answer a (with_answer b others)
-        → FirstAsked (Allows tells) own_entries (request_of GetErrorLogAddressRangeAttributes) (request_of GetExecuteOperationTimings ∷ []) left2 w2 others left last → AttachesOwn budget first result left last
+        → FirstAsked (Allows tells) own_entries (request_of GetErrorLogAddressRangeAttributes) (request_of GetExecuteOperationTimings ∷ []) left2 w2 others left
+        last → AttachesOwn budget first result left last
     by_third a b left2 w2 others is a_is b_is spent answers_are asked = elim asked [
       | Went c left3 w3 more_others run more joined ↦
           let told = told_attributes left2 _ first w2 (Ok c) left3 w3 (omega (arith, spent, enough)) is run in
@@ -147,8 +162,10 @@ attach_own tells own budget first result left last enough attaches =
           absurd (stop_no _ stop told.0)
     ]
 
-    by_second : (a left1 : ℕ) (w1 : MachineState) (others : Result (List ℕ) RunStop) → w1 ≡ with_value log_range_at first → a ≡ log_range_at % 2 ^ 64 → left1 + 2 ≡ budget → attaches.answers ≡ with_answer a others
-        → FirstAsked (Allows tells) own_entries (request_of GetErrorLogAddressRangeLength) (request_of GetErrorLogAddressRangeAttributes ∷ request_of GetExecuteOperationTimings ∷ []) left1 w1 others left last
+    by_second : (a left1 : ℕ) (w1 : MachineState) (others : Result (List ℕ) RunStop) → w1 ≡ with_value log_range_at first → a ≡ log_range_at % 2 ^ 64 →
+        left1 + 2 ≡ budget → attaches.answers ≡ with_answer a others
+        → FirstAsked (Allows tells) own_entries (request_of GetErrorLogAddressRangeLength) (request_of GetErrorLogAddressRangeAttributes ∷ request_of
+        GetExecuteOperationTimings ∷ []) left1 w1 others left last
         → AttachesOwn budget first result left last
     by_second a left1 w1 others is a_is spent answers_are asked = elim asked [
       | Went b left2 w2 more_others run more joined ↦
@@ -161,7 +178,8 @@ attach_own tells own budget first result left last enough attaches =
     ]
 
     by_first : FirstAsked (Allows tells) own_entries (request_of GetErrorLogAddressRange)
-        (request_of GetErrorLogAddressRangeLength ∷ request_of GetErrorLogAddressRangeAttributes ∷ request_of GetExecuteOperationTimings ∷ []) budget first attaches.answers left last → AttachesOwn budget first result left last
+        (request_of GetErrorLogAddressRangeLength ∷ request_of GetErrorLogAddressRangeAttributes ∷ request_of GetExecuteOperationTimings ∷ []) budget first
+        attaches.answers left last → AttachesOwn budget first result left last
     by_first asked = elim asked [
       | Went a left1 w1 others run more joined ↦
           let told = told_address budget first.device.value first first (Ok a) left1 w1 (omega (arith, enough)) refl run in

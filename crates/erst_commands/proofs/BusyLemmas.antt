@@ -38,15 +38,19 @@ abbrev pub IsBounded : ℕ → Layout → Pending → Type 0
 IsBounded zero layout pending = pending ≡ Idle
 IsBounded (suc n) layout pending = IsBounded n layout (pending_after layout pending)
 
-bounded_write : (layout : Layout) (id : ℕ) (bytes slots : List ℕ) (replaces : Bool) (left made : ℕ) → made + suc left ≡ changes_in_all layout bytes replaces → IsBounded (suc left) layout (Writing id bytes slots replaces made)
+bounded_write : (layout : Layout) (id : ℕ) (bytes slots : List ℕ) (replaces : Bool) (left made : ℕ) → made + suc left ≡ changes_in_all layout bytes replaces →
+    IsBounded (suc left) layout (Writing id bytes slots replaces made)
 bounded_write layout id bytes slots replaces zero made sum =
-    cond-true {A = Pending} (nat_eq (made + 1) (changes_in_all layout bytes replaces)) Idle (Writing id bytes slots replaces (made + 1)) (eq-eqb (made + 1) (changes_in_all layout bytes replaces) (omega (arith, sum)))
+    cond-true {A = Pending} (nat_eq (made + 1) (changes_in_all layout bytes replaces)) Idle (Writing id bytes slots replaces (made + 1))
+    (eq-eqb (made + 1) (changes_in_all layout bytes replaces) (omega (arith, sum)))
 bounded_write layout id bytes slots replaces (suc left) made sum =
     subst (λ (p : Pending). IsBounded (suc left) layout p)
-    (sym (cond-false {A = Pending} (nat_eq (made + 1) (changes_in_all layout bytes replaces)) Idle (Writing id bytes slots replaces (made + 1)) (ne_eqb (made + 1) (changes_in_all layout bytes replaces) (λ e. absurd (omega (arith, sum, e))))))
+    (sym (cond-false {A = Pending} (nat_eq (made + 1) (changes_in_all layout bytes replaces)) Idle (Writing id bytes slots replaces (made + 1))
+    (ne_eqb (made + 1) (changes_in_all layout bytes replaces) (λ e. absurd (omega (arith, sum, e))))))
     (bounded_write layout id bytes slots replaces left (made + 1) (omega (arith, sum)))
 
-some_and_few : (layout : Layout) (bytes : List ℕ) (replaces : Bool) → (changes_before_gate layout bytes < changes_in_all layout bytes replaces) × (changes_in_all layout bytes replaces ≤ changes_before_gate layout bytes + 2)
+some_and_few : (layout : Layout) (bytes : List ℕ) (replaces : Bool) → (changes_before_gate layout bytes < changes_in_all layout bytes replaces) ×
+    (changes_in_all layout bytes replaces ≤ changes_before_gate layout bytes + 2)
 some_and_few layout bytes true = (omega arith, omega arith)
 some_and_few layout bytes false = (omega arith, omega arith)
 
@@ -84,7 +88,8 @@ module _ (tells : Type 0) (old : DeviceState) (range : List ℕ) (still : IsStil
   quiet : (new : DeviceState) → new.store.layout ≡ old.store.layout → new.reading ≡ None → new.store.pending ≡ Idle → StartsFinite old.store.layout new
   quiet new layout none idle = record { n = 0; few = omega arith; finite = record { layout_is = layout; runs = inl (none, idle) } }
 
-  write_finite : (size id : ℕ) (store : StoreView) (result : Result (Unit {0}) StoreError) (new : DeviceState) → draft_at old.offset range ≡ Some (size, id) → StartedWrite tells old.store store id (part range old.offset size) result
+  write_finite : (size id : ℕ) (store : StoreView) (result : Result (Unit {0}) StoreError) (new : DeviceState) → draft_at old.offset range ≡ Some (size, id) →
+      StartedWrite tells old.store store id (part range old.offset size) result
       → new.store ≡ store → new.reading ≡ None → StartsFinite old.store.layout new
   write_finite size id store (Ok done) new draft call there none =
       let layout = old.store.layout in
@@ -111,7 +116,8 @@ module _ (tells : Type 0) (old : DeviceState) (range : List ℕ) (still : IsStil
   write_finite size id store (Err error) new draft call there none =
       quiet new (ap (λ (s : StoreView). s.layout) there ∙ call.leaves.equivalent.layout) none (ap (λ (s : StoreView). s.pending) there ∙ idle_after store error call.leaves.doubt)
 
-  clear_finite : (store : StoreView) (result : Result (Unit {0}) StoreError) (new : DeviceState) → StartedClear tells old.store store old.id result → new.store ≡ store → new.reading ≡ None → StartsFinite old.store.layout new
+  clear_finite : (store : StoreView) (result : Result (Unit {0}) StoreError) (new : DeviceState) → StartedClear tells old.store store old.id result →
+      new.store ≡ store → new.reading ≡ None → StartsFinite old.store.layout new
   clear_finite store (Ok done) new call there none = record {
     n = 1;
     few = omega arith;
@@ -146,7 +152,8 @@ data HasGone (layout : Layout) (n : ℕ) (new : DeviceState) : Type 0 where
   GoesOn : (more : ℕ) → n ≡ suc (suc more) → IsFinite layout (suc more) new → new.value ≡ 1 → HasGone layout n new
 
 module _ (layout : Layout) (old : DeviceState) (layout_is : old.store.layout ≡ layout) (none : old.reading ≡ None) where
-  further : (n : ℕ) (store : StoreView) → old.store.pending ≡ Idle ⊎ IsBusy old.store.pending → IsBusy old.store.pending → IsBounded n layout old.store.pending → store.layout ≡ layout → store.pending ≡ pending_after old.store.layout old.store.pending
+  further : (n : ℕ) (store : StoreView) → old.store.pending ≡ Idle ⊎ IsBusy old.store.pending → IsBusy old.store.pending → IsBounded n layout old.store.pending
+      → store.layout ≡ layout → store.pending ≡ pending_after old.store.layout old.store.pending
       → (store.pending ≡ Idle → ⊥) → HasGone layout n (stepped (Ok false) store old)
   further zero store which busy bounded equivalent pending goes = absurd (idle_busy old.store.pending bounded busy)
   further (suc n) store which busy bounded equivalent pending goes =
@@ -156,7 +163,8 @@ module _ (layout : Layout) (old : DeviceState) (layout_is : old.store.layout ≡
       rest zero idle = absurd (goes idle)
       rest (suc more) left = GoesOn more refl (record { layout_is = equivalent; runs = inl (none, left) }) refl
 
-  by_result : (tells : Type 0) (n : ℕ) (store : StoreView) (result : Result Bool StoreError) → IsBusy old.store.pending → IsBounded n layout old.store.pending → Stepped tells old.store store result → HasGone layout n (stepped result store old)
+  by_result : (tells : Type 0) (n : ℕ) (store : StoreView) (result : Result Bool StoreError) → IsBusy old.store.pending → IsBounded n layout old.store.pending →
+      Stepped tells old.store store result → HasGone layout n (stepped result store old)
   by_result tells n store (Ok true) busy bounded step = IsDone refl
   by_result tells n store (Ok false) busy bounded step =
       further n store (inr busy) busy bounded (step.equivalent.layout ∙ layout_is) step.stepped.1 (goes_on step.stepped.2)
@@ -197,7 +205,8 @@ module _ (tells : Type 0) (own : OwnProgramsRun tells) (layout : Layout) where
     ChecksOn : (more left : ℕ) (last : MachineState) → n ≡ suc (suc more) → IsFinite layout (suc more) last.device → left + 2 ≡ budget → Checked n budget (Ok 1) left last
     ChecksNot : (last : MachineState) → budget < 2 → Checked n budget (Err Budget) 0 last
 
-  check : (n : ℕ) (w : MachineState) → IsFinite layout n w.device → (budget : ℕ) (result : Result ℕ RunStop) (left : ℕ) (last : MachineState) → Performs (Allows tells) own_entries CheckBusyStatus 0 budget w result left last
+  check : (n : ℕ) (w : MachineState) → IsFinite layout n w.device → (budget : ℕ) (result : Result ℕ RunStop) (left : ℕ) (last : MachineState) →
+      Performs (Allows tells) own_entries CheckBusyStatus 0 budget w result left last
       → Checked n budget result left last
   check n w finite budget result left last run = elim (own CheckBusyStatus 0 budget w result left last run) as (λ result left last made. Checked n budget result left last) [
     | IsMade left last acted spent ↦ answered left last (ap (λ (k : ℕ). left + k) (sym steps-check) ∙ spent) (check_gone tells layout n w last finite acted)
@@ -221,18 +230,21 @@ module _ (tells : Type 0) (own : OwnProgramsRun tells) (layout : Layout) where
     some : (busy ≡ 0) ⊎ (1 ≤ rest)
     spent : left + 2 * busy ≡ budget
 
-  pause_device : (timings : Option (ℕ × ℕ)) (busy : ℕ) (old : MachineState) (result : Result (Unit {0}) ClientError) (new : MachineState) → Pauses (Allows tells) timings busy old result new → new.device ≡ old.device
+  pause_device : (timings : Option (ℕ × ℕ)) (busy : ℕ) (old : MachineState) (result : Result (Unit {0}) ClientError) (new : MachineState) →
+      Pauses (Allows tells) timings busy old result new → new.device ≡ old.device
   pause_device timings busy old result new pauses = elim pauses as (λ result new pauses. new.device ≡ old.device) [
     | Untimed none ↦ refl
     | Timed known new some early waited ↦ ap (λ (m : MachineState). m.device) waited
     | TooOften known some late ↦ refl
   ]
 
-  so_far : (timings : Option (ℕ × ℕ)) (n : ℕ) (w : MachineState) → IsFinite layout n w.device → (budget busy left : ℕ) (mid : MachineState) → Busy (Allows tells) own_entries timings budget w busy left mid → SoFar n budget busy left mid
+  so_far : (timings : Option (ℕ × ℕ)) (n : ℕ) (w : MachineState) → IsFinite layout n w.device → (budget busy left : ℕ) (mid : MachineState) →
+      Busy (Allows tells) own_entries timings budget w busy left mid → SoFar n budget busy left mid
   so_far timings n w finite budget busy left mid NotYet = record { rest = n; finite = finite; sum = omega arith; some = inl refl; spent = omega arith }
   so_far timings n w finite budget busy left mid (Again before asked from answer behind next new earlier run more pause) =
       let is = so_far timings n w finite budget before asked from earlier in
-      further_on before asked answer behind next new is.rest is.sum is.spent more (pause_device timings (suc before) next (Ok tt) new pause) (check is.rest from is.finite asked (Ok answer) behind next run)
+      further_on before asked answer behind next new is.rest is.sum is.spent more (pause_device timings (suc before) next (Ok tt) new pause)
+      (check is.rest from is.finite asked (Ok answer) behind next run)
     where
       further_on : (before asked answer behind : ℕ) (next new : MachineState) (rest : ℕ) → before + rest ≡ n → asked + 2 * before ≡ budget → (answer ≡ 0 → ⊥) → new.device ≡ next.device
           → Checked rest asked (Ok answer) behind next → SoFar n budget (suc before) behind new
@@ -276,7 +288,8 @@ module _ (tells : Type 0) (own : OwnProgramsRun tells) (layout : Layout) where
   within_most busy rest n sum (inl none) = omega (arith, none)
   within_most busy rest n sum (inr some) = omega (arith, sum, some)
 
-  pub waits_through : (known : ℕ × ℕ) (n : ℕ) (w : MachineState) → IsFinite layout n w.device → 10 * n ≤ known.0 → (budget : ℕ) → 2 * max 1 n ≤ budget → (result : Result (Unit {0}) ClientError) (left : ℕ) (last : MachineState)
+  pub waits_through : (known : ℕ × ℕ) (n : ℕ) (w : MachineState) → IsFinite layout n w.device → 10 * n ≤ known.0 → (budget : ℕ) → 2 * max 1 n ≤ budget →
+      (result : Result (Unit {0}) ClientError) (left : ℕ) (last : MachineState)
       → Waits (Allows tells) own_entries (Some known) budget w result left last → WaitsThrough n budget result left
   waits_through known n w finite early budget enough result left last waits = elim waits as (λ result left last waits. WaitsThrough n budget result left) [
     | IsIdle busy asked mid left last earlier run ↦

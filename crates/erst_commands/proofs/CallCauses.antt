@@ -4,7 +4,8 @@ use Rattle.base_model.specs.Faults.{Rose}
 use Rattle.base_model.specs.Bytes.{number_at}
 use Rattle.apei_space.specs.declared.faults.SpaceFault.{SpaceFault}
 use Rattle.record_store.specs.Store.{StoreView}
-use Rattle.erst_entries.specs.declared.actions.Action.TheVariants.{BeginWriteOperation, BeginReadOperation, BeginClearOperation, BeginDummyWriteOperation, SetRecordOffset, SetRecordIdentifier, ExecuteOperation}
+use Rattle.erst_entries.specs.declared.actions.Action.TheVariants.{BeginWriteOperation, BeginReadOperation, BeginClearOperation, BeginDummyWriteOperation}
+use Rattle.erst_entries.specs.declared.actions.Action.TheVariants.{SetRecordOffset, SetRecordIdentifier, ExecuteOperation}
 use Rattle.erst_client.specs.declared.errors.ClientError.{ClientError}
 use Rattle.erst_client.specs.declared.errors.ClientError.TheVariants.{Hardware, Range}
 use Rattle.erst_client.specs.Commands.{ClientState, Writes, IsNoRecord, IsNotPut, IsAsked, CopiesOut, IsFilled, IsNotFilled, copied, Reads, IsNotRead, HasNoLength, IsNotCopied, IsCopied}
@@ -94,7 +95,8 @@ module _ (tells : Type 0) (client : ClientState) where
   ]
 
   -- behind a read's sequence nothing is changed, and no error is `Hardware`
-  read_behind : (first mid last : MachineState) (result : Result ℕ ClientError) → HasItsCause {T = Unit {0}} first mid (Ok tt) → last ≡ mid → (result ≡ Err Hardware → ⊥) → HasItsCause first last result
+  read_behind : (first mid last : MachineState) (result : Result ℕ ClientError) → HasItsCause {T = Unit {0}} first mid (Ok tt) → last ≡ mid →
+      (result ≡ Err Hardware → ⊥) → HasItsCause first last result
   read_behind first mid last result cause is well = record {
     never_falls = subst (λ (m : MachineState). first.device.store.flash.faults ≤ m.device.store.flash.faults) (sym is) cause.never_falls;
     hardware = λ e. absurd (well e);
@@ -104,7 +106,8 @@ module _ (tells : Type 0) (client : ClientState) where
     same : new ≡ old
     well : (len : ℕ) → copied answer len ≡ Err Hardware → ⊥
 
-  has_copied : (address : ℕ) (before after : List ℕ) (old : MachineState) (answer : Result (Unit {0}) ClientError) (new : MachineState) → CopiesOut (Allows tells) address before after old answer new → HasCopied old answer new
+  has_copied : (address : ℕ) (before after : List ℕ) (old : MachineState) (answer : Result (Unit {0}) ClientError) (new : MachineState) →
+      CopiesOut (Allows tells) address before after old answer new → HasCopied old answer new
   has_copied address before after old answer new copies = elim copies as (λ answer new copies. HasCopied old answer new) [
     | IsFilled new allowed ↦ record { same = allowed.2; well = λ len e. absurd (cc e) }
     | IsNotFilled fault new allowed ↦ record { same = allowed.2; well = λ len e. not_range fault e }

@@ -97,14 +97,16 @@ judged_hardware Failed e = absurd (cc e)
 judged_hardware RecordStoreEmpty e = absurd (cc e)
 judged_hardware RecordNotFound e = absurd (cc e)
 
-pauses_well : (tells : Type 0) (timings : Option (ℕ × ℕ)) (busy : ℕ) (w : MachineState) (result : Result (Unit {0}) ClientError) (last : MachineState) → Pauses (Allows tells) timings busy w result last → result ≡ Err Hardware → ⊥
+pauses_well : (tells : Type 0) (timings : Option (ℕ × ℕ)) (busy : ℕ) (w : MachineState) (result : Result (Unit {0}) ClientError) (last : MachineState) →
+    Pauses (Allows tells) timings busy w result last → result ≡ Err Hardware → ⊥
 pauses_well tells timings busy w result last pauses = elim pauses as (λ result last pauses. result ≡ Err Hardware → ⊥) [
   | Untimed none ↦ λ e. not_ok tt e
   | Timed known new some short waited ↦ λ e. not_ok tt e
   | TooOften known some long ↦ λ e. not_late _ e
 ]
 
-waits_well : (tells : Type 0) (timings : Option (ℕ × ℕ)) (budget : ℕ) (w : MachineState) (result : Result (Unit {0}) ClientError) (left : ℕ) (last : MachineState) → Waits (Allows tells) own_entries timings budget w result left last
+waits_well : (tells : Type 0) (timings : Option (ℕ × ℕ)) (budget : ℕ) (w : MachineState) (result : Result (Unit {0}) ClientError) (left : ℕ)
+    (last : MachineState) → Waits (Allows tells) own_entries timings budget w result left last
     → result ≡ Err Hardware → ⊥
 waits_well tells timings budget w result left last waits = elim waits as (λ result left last waits. result ≡ Err Hardware → ⊥) [
   | IsIdle busy asked mid left last earlier run ↦ λ e. not_ok tt e
@@ -136,7 +138,8 @@ module _ (granted tells : Type 0) (own : OwnProgramsRun tells) (first : MachineS
     | Halted stop run halted ↦ run_grounded request.action request.given budget w (Err stop) left last is run
   ]
 
-  pauses_grounded : (timings : Option (ℕ × ℕ)) (busy : ℕ) (w : MachineState) (result : Result (Unit {0}) ClientError) (last : MachineState) → Grounded granted first w → Pauses (Allows tells) timings busy w result last
+  pauses_grounded : (timings : Option (ℕ × ℕ)) (busy : ℕ) (w : MachineState) (result : Result (Unit {0}) ClientError) (last : MachineState) →
+      Grounded granted first w → Pauses (Allows tells) timings busy w result last
       → Grounded granted first last
   pauses_grounded timings busy w result last is pauses = elim pauses as (λ result last pauses. Grounded granted first last) [
     | Untimed none ↦ is
@@ -144,7 +147,8 @@ module _ (granted tells : Type 0) (own : OwnProgramsRun tells) (first : MachineS
     | TooOften known some long ↦ is
   ]
 
-  busy_grounded : (timings : Option (ℕ × ℕ)) (w : MachineState) → Grounded granted first w → (budget busy left : ℕ) (mid : MachineState) → Busy (Allows tells) own_entries timings budget w busy left mid → Grounded granted first mid
+  busy_grounded : (timings : Option (ℕ × ℕ)) (w : MachineState) → Grounded granted first w → (budget busy left : ℕ) (mid : MachineState) →
+      Busy (Allows tells) own_entries timings budget w busy left mid → Grounded granted first mid
   busy_grounded timings w is budget busy left mid NotYet = is
   busy_grounded timings w is budget busy left mid (Again before asked from answer behind next new earlier run more pause) =
       pauses_grounded timings (suc before) next (Ok tt) mid
@@ -173,12 +177,13 @@ module _ (tells : Type 0) (own : OwnProgramsRun tells) (first : MachineState) wh
 
   opened : (action : Action) (operation : Operation) (rest : List Request) → BeginsWith action operation → (budget : ℕ) (answers : List ℕ) (left : ℕ) (last : MachineState)
       → Asks (Allows tells) own_entries (record { action = action; given = 0 } ∷ rest) budget first (Ok answers) left last → Grounded ⊥ first last
-  opened action operation rest begins budget answers left last asks = elim (first_asked (Allows tells) own_entries (record { action = action; given = 0 }) rest budget first (Ok answers) left last asks) [
-    | Went answer asked mid others run behind joined ↦
-        let reached = ok_reaches first (λ w. w ≡ on_device first (begun_device operation first.device)) 1 budget (Ok answer) asked mid answer refl (begins budget (Ok answer) asked mid run) in
-        asks_grounded ⊥ tells own first rest asked mid others left last (begun operation mid reached.holds) behind
-    | Halted stop run halted ↦ absurd (no_halt answers stop halted)
-  ]
+  opened action operation rest begins budget answers left last asks = elim (first_asked (Allows tells) own_entries (record { action = action; given = 0 }) rest
+      budget first (Ok answers) left last asks) [
+        | Went answer asked mid others run behind joined ↦
+            let reached = ok_reaches first (λ w. w ≡ on_device first (begun_device operation first.device)) 1 budget (Ok answer) asked mid answer refl (begins budget (Ok answer) asked mid run) in
+            asks_grounded ⊥ tells own first rest asked mid others left last (begun operation mid reached.holds) behind
+        | Halted stop run halted ↦ absurd (no_halt answers stop halted)
+      ]
 
   judged_rose : (idle : MachineState) → Grounded ⊥ first idle → judged (status_in idle) ≡ Err Hardware → Rose first.device.store.flash.faults idle.device.store.flash.faults
   judged_rose idle is e = elim (is.status (judged_hardware idle.device.status e)) [ inl rose ↦ rose | inr none ↦ absurd none ]
@@ -187,7 +192,8 @@ module _ (tells : Type 0) (own : OwnProgramsRun tells) (first : MachineState) wh
   cut_low idle told value is (inl same) = subst (λ (m : MachineState). first.device.store.flash.faults ≤ m.device.store.flash.faults) (sym same) is.never_falls
   cut_low idle told value is (inr same) = subst (λ (m : MachineState). first.device.store.flash.faults ≤ m.device.store.flash.faults) (sym same) is.never_falls
 
-  pub sequence_cause : (action : Action) (operation : Operation) (rest : List Request) → BeginsWith action operation → (timings : Option (ℕ × ℕ)) (budget : ℕ) (result : Result (Unit {0}) ClientError) (left : ℕ) (last : MachineState)
+  pub sequence_cause : (action : Action) (operation : Operation) (rest : List Request) → BeginsWith action operation → (timings : Option (ℕ × ℕ)) (budget : ℕ)
+      (result : Result (Unit {0}) ClientError) (left : ℕ) (last : MachineState)
       → Sequence (Allows tells) own_entries timings (record { action = action; given = 0 } ∷ rest) budget first result left last → HasItsCause first last result
   sequence_cause action operation rest begins timings budget result left last sequence =
       elim (sequence_ends tells own timings (record { action = action; given = 0 } ∷ rest) budget first result left last sequence) as (λ result left last ends. HasItsCause first last result) [
@@ -235,7 +241,8 @@ count_hardware n e = elim (cases_eq n (2 ^ 32 - 1)) [
 ]
 
 module _ (tells : Type 0) (own : OwnProgramsRun tells) (budget : ℕ) (first : MachineState) where
-  count_by : (last : MachineState) (store : StoreView) (result : Result ℕ StoreError) → Counted tells (given_up first.device).store store result → last.device ≡ counted result store (given_up first.device)
+  count_by : (last : MachineState) (store : StoreView) (result : Result ℕ StoreError) → Counted tells (given_up first.device).store store result →
+      last.device ≡ counted result store (given_up first.device)
       → ActsOn tells first 0xA last → last.device.value % 2 ^ 32 ≡ 2 ^ 32 - 1 → Rose first.device.store.flash.faults last.device.store.flash.faults
   count_by last store (Ok n) count is acted full =
       let most = first.device.store.layout.many_slots in

@@ -30,7 +30,8 @@ use Rattle.erst_commands.specs.OwnPrograms.{with_value, OwnProgramsRun}
 use Rattle.erst_commands.specs.Attached.{own_client}
 use Rattle.erst_commands.specs.Changes.{IsErrorOf, waits_after, ChangeLeaves, ChangeCommand, IsTaken, IsRefused, IsFailed, IsStopped}
 use Rattle.erst_commands.proofs.MachineSteps.{on_device}
-use Rattle.erst_commands.proofs.SequenceLemmas.{Untouched, Opened, StillWaited, IsAtOnce, IsShort, wait_still, ended_from, status_in, HasTold, HasNotTold, HasNotWaited, HasNotAsked, sequence_ends, opened_ok, opened_short}
+use Rattle.erst_commands.proofs.SequenceLemmas.{Untouched, Opened, StillWaited, IsAtOnce, IsShort, wait_still, ended_from, status_in, HasTold, HasNotTold}
+use Rattle.erst_commands.proofs.SequenceLemmas.{HasNotWaited, HasNotAsked, sequence_ends, opened_ok, opened_short}
 use Rattle.erst_commands.proofs.WayLemmas.{Leads, OnWay, Broken, Midway, of_way, WayWaited, WayEnds, WayBreaks, WayStops, wait_way}
 use Rattle.erst_commands.proofs.SharedLemmas.{equivalent_then}
 use Rattle.record_store.proofs.Words.{doubt_after}
@@ -64,7 +65,8 @@ copies_first id store = cond (is_reserved id) 0 (copies_of (abandoned store))
 
 -- one that does not
 pub data UnstartedAnswer (first start : MachineState) (id : ℕ) (command : Command) : Type 0 where
-  RefusedBy : (refusal : Refusal) (error : ClientError) → refusal_of first.device.store.layout command (records_of first) ≡ Some refusal → IsErrorOf refusal error → judged (number_of start.device.status) ≡ Err error
+  RefusedBy : (refusal : Refusal) (error : ClientError) → refusal_of first.device.store.layout command (records_of first) ≡ Some refusal →
+      IsErrorOf refusal error → judged (number_of start.device.status) ≡ Err error
       → start.device.store.flash.steps ≡ first.device.store.flash.steps + copies_first id first.device.store → start.device.store.flash.faults ≡ first.device.store.flash.faults
       → (is_reserved id ≡ false → start.device.store.in_doubt ≡ false) → (is_reserved id ≡ true → start.device.store ≡ abandoned first.device.store) → UnstartedAnswer first start id command
   FailedBy : is_reserved id ≡ false → Rose first.device.store.flash.faults start.device.store.flash.faults → start.device.status ≡ HardwareNotAvailable → UnstartedAnswer first start id command
@@ -111,7 +113,8 @@ leaves_from first start command all pauses value w base few midway = record {
   crash = begun_then first.device.store start.device.store w.device.store (after first.device.store.layout command (records_of first)) base.kept base.equivalent midway.crash;
   few = omega (arith, base.few, midway.few, few);
   idle = refl;
-  equivalent = let both = equivalent_then first.device.store start.device.store w.device.store base.equivalent midway.equivalent in record { layout = both.layout; size = both.size; sector_size = both.sector_size };
+  equivalent = let both = equivalent_then first.device.store start.device.store w.device.store base.equivalent midway.equivalent in
+      record { layout = both.layout; size = both.size; sector_size = both.sector_size };
   never_falls = omega (arith, base.never_falls, midway.never_falls);
   cursor = midway.cursor ∙ base.cursor;
   elsewhere =
@@ -148,7 +151,8 @@ module _ (tells : Type 0) (own : OwnProgramsRun tells) (told : tells) (first : M
     (needs : (checks : ℕ) → steps_needed own_entries requests checks ≡ 6 + 2 * checks)
     (limit : changes_of first.device.store.layout command (records_of first) ≤ most_changes first.device.store.layout) where
   -- one that runs
-  way_of : (start : MachineState) (started : StartedChange first start id command) → OnWay start (after first.device.store.layout command (records_of first)) (suc started.more) 0 (suc started.more) 0 start
+  way_of : (start : MachineState) (started : StartedChange first start id command) → OnWay start (after first.device.store.layout command (records_of first))
+      (suc started.more) 0 (suc started.more) 0 start
   way_of start started = record {
     sum = omega arith;
     leads = started.leads;
@@ -164,7 +168,8 @@ module _ (tells : Type 0) (own : OwnProgramsRun tells) (told : tells) (first : M
   }
 
   waited_way : (start : MachineState) (started : StartedChange first start id command) (asked : ℕ) (result : Result (Unit {0}) ClientError) (left : ℕ) (last : MachineState)
-      → Waits (Allows tells) own_entries (own_client first).timings asked start result left last → WayWaited start (after first.device.store.layout command (records_of first)) (suc started.more) asked result left last
+      → Waits (Allows tells) own_entries (own_client first).timings asked start result left last →
+      WayWaited start (after first.device.store.layout command (records_of first)) (suc started.more) asked result left last
   waited_way start started asked result left last waits =
       wait_way tells own told start (after first.device.store.layout command (records_of first)) started.more
       (10 * most_changes first.device.store.layout, 10 * (first.device.store.layout.per_slot + 4)) (way_of start started) (omega (arith, limit, started.all)) asked result left last waits
@@ -176,17 +181,20 @@ module _ (tells : Type 0) (own : OwnProgramsRun tells) (told : tells) (first : M
       IsStopped pauses (leaves_from first start command all pauses value w base few midway) (omega (arith, few, checks)) (omega (arith, short, needs (pauses + 1)))
 
   -- the status of one that ran
-  told_way : (start idle : MachineState) (started : StartedChange first start id command) (asked waited left : ℕ) (result : Result (Unit {0}) ClientError) → result ≡ Ok tt → asked + 4 ≡ budget → left + 2 ≡ waited
+  told_way : (start idle : MachineState) (started : StartedChange first start id command) (asked waited left : ℕ) (result : Result (Unit {0}) ClientError) →
+      result ≡ Ok tt → asked + 4 ≡ budget → left + 2 ≡ waited
       → WayWaited start (after first.device.store.layout command (records_of first)) (suc started.more) asked result waited idle
       → ChangeCommand first (ended_from (with_value (status_in idle) idle)) id command requests budget (judged (status_in idle)) left
   told_way start idle started asked waited left result is opened spent ends =
-      (elim ends as (λ result waited idle ends. result ≡ Ok tt → left + 2 ≡ waited → ChangeCommand first (ended_from (with_value (status_in idle) idle)) id command requests budget (judged (status_in idle)) left) [
+      (elim ends as (λ result waited idle ends. result ≡ Ok tt → left + 2 ≡ waited → ChangeCommand first (ended_from (with_value (status_in idle) idle)) id
+      command requests budget (judged (status_in idle)) left) [
         | WayEnds busy waited idle way sum ↦ λ e behind. ends_well busy waited idle way sum behind
         | WayBreaks busy waited idle broken few sum ↦ λ e behind. breaks busy waited idle broken few sum behind
         | WayStops busy idle midway few short ↦ λ e behind. absurd (cc e)
       ]) is spent
     where
-      ends_well : (busy waited : ℕ) (idle : MachineState) → OnWay start (after first.device.store.layout command (records_of first)) (suc started.more) (busy + 1) 0 busy idle → waited + 2 * (busy + 1) ≡ asked → left + 2 ≡ waited
+      ends_well : (busy waited : ℕ) (idle : MachineState) → OnWay start (after first.device.store.layout command (records_of first)) (suc started.more)
+          (busy + 1) 0 busy idle → waited + 2 * (busy + 1) ≡ asked → left + 2 ≡ waited
           → ChangeCommand first (ended_from (with_value (status_in idle) idle)) id command requests budget (judged (status_in idle)) left
       ends_well busy waited idle way sum behind =
           let last = ended_from (with_value (status_in idle) idle) in
@@ -210,7 +218,8 @@ module _ (tells : Type 0) (own : OwnProgramsRun tells) (told : tells) (first : M
           differ : {P : Type 0} → true ≡ false → P
           differ e = absurd (cc)
 
-      breaks : (busy waited : ℕ) (idle : MachineState) → Broken start (after first.device.store.layout command (records_of first)) (suc started.more) busy idle → busy + 1 ≤ suc started.more → waited + 2 * (busy + 1) ≡ asked
+      breaks : (busy waited : ℕ) (idle : MachineState) → Broken start (after first.device.store.layout command (records_of first)) (suc started.more) busy idle
+          → busy + 1 ≤ suc started.more → waited + 2 * (busy + 1) ≡ asked
           → left + 2 ≡ waited → ChangeCommand first (ended_from (with_value (status_in idle) idle)) id command requests budget (judged (status_in idle)) left
       breaks busy waited idle broken few sum behind =
           let last = ended_from (with_value (status_in idle) idle) in
@@ -257,7 +266,8 @@ module _ (tells : Type 0) (own : OwnProgramsRun tells) (told : tells) (first : M
     | inr same ↦ ap (λ (m : MachineState). with_value other.device.value m) same
   ]
 
-  cut : (start : MachineState) (all pauses : ℕ) (w other : MachineState) → other ≡ with_value other.device.value w → Base first start → all ≤ changes_of first.device.store.layout command (records_of first)
+  cut : (start : MachineState) (all pauses : ℕ) (w other : MachineState) → other ≡ with_value other.device.value w → Base first start →
+      all ≤ changes_of first.device.store.layout command (records_of first)
       → Midway start (after first.device.store.layout command (records_of first)) all pauses w → pauses + 1 ≤ max 1 all → budget < 6 + 2 * (pauses + 1)
       → ChangeCommand first (ended_from other) id command requests budget (Err (Stopped Budget)) 0
   cut start all pauses w other is base few midway checks short =
@@ -270,31 +280,40 @@ module _ (tells : Type 0) (own : OwnProgramsRun tells) (told : tells) (first : M
       → ChangeCommand first (ended_from other) id command requests budget (Err (Stopped Budget)) 0
   not_told start asked waited idle other which opened waits short either = elim which [
     | inl started ↦ by_way started (Ok tt) waited idle refl (same_value idle (status_in idle) other either) short (waited_way start started asked (Ok tt) waited idle waits)
-    | inr unstarted ↦ by_still unstarted (Ok tt) waited idle refl (same_value idle (status_in idle) other either) short (wait_still tells own (own_client first).timings start unstarted.still asked (Ok tt) waited idle waits)
+    | inr unstarted ↦ by_still unstarted (Ok tt) waited idle refl (same_value idle (status_in idle) other either) short
+        (wait_still tells own (own_client first).timings start unstarted.still asked (Ok tt) waited idle waits)
   ]
     where
-      by_way : (started : StartedChange first start id command) (result : Result (Unit {0}) ClientError) (waited : ℕ) (idle : MachineState) → result ≡ Ok tt → other ≡ with_value other.device.value idle → waited < 2
-          → WayWaited start (after first.device.store.layout command (records_of first)) (suc started.more) asked result waited idle → ChangeCommand first (ended_from other) id command requests budget (Err (Stopped Budget)) 0
+      by_way : (started : StartedChange first start id command) (result : Result (Unit {0}) ClientError) (waited : ℕ) (idle : MachineState) → result ≡ Ok tt →
+          other ≡ with_value other.device.value idle → waited < 2
+          → WayWaited start (after first.device.store.layout command (records_of first)) (suc started.more) asked result waited idle →
+          ChangeCommand first (ended_from other) id command requests budget (Err (Stopped Budget)) 0
       by_way started result waited idle is same short ends =
-          (elim ends as (λ result waited idle ends. result ≡ Ok tt → other ≡ with_value other.device.value idle → waited < 2 → ChangeCommand first (ended_from other) id command requests budget (Err (Stopped Budget)) 0) [
+          (elim ends as (λ result waited idle ends. result ≡ Ok tt → other ≡ with_value other.device.value idle → waited < 2 →
+          ChangeCommand first (ended_from other) id command requests budget (Err (Stopped Budget)) 0) [
             | WayEnds busy waited idle way sum ↦ λ e same few.
-                cut start (suc started.more) busy idle other same started.base (omega (arith, started.all)) (of_way start _ (suc started.more) (busy + 1) 0 busy idle way) (omega (arith, way.sum)) (omega (arith, opened, sum, few))
+                cut start (suc started.more) busy idle other same started.base (omega (arith, started.all)) (of_way start _ (suc started.more) (busy + 1) 0 busy
+                idle way) (omega (arith, way.sum)) (omega (arith, opened, sum, few))
             | WayBreaks busy waited idle broken checks sum ↦ λ e same few.
                 cut start (suc started.more) busy idle other same started.base (omega (arith, started.all)) broken.midway (omega (arith, checks)) (omega (arith, opened, sum, few))
             | WayStops busy idle midway checks cut_short ↦ λ e same few. absurd (cc e)
           ]) is same short
 
-      by_still : (unstarted : UnstartedChange first start id command) (result : Result (Unit {0}) ClientError) (waited : ℕ) (idle : MachineState) → result ≡ Ok tt → other ≡ with_value other.device.value idle → waited < 2
+      by_still : (unstarted : UnstartedChange first start id command) (result : Result (Unit {0}) ClientError) (waited : ℕ) (idle : MachineState) →
+          result ≡ Ok tt → other ≡ with_value other.device.value idle → waited < 2
           → StillWaited start asked result waited idle → ChangeCommand first (ended_from other) id command requests budget (Err (Stopped Budget)) 0
       by_still unstarted result waited idle is same short ends =
-          (elim ends as (λ result waited idle ends. result ≡ Ok tt → other ≡ with_value other.device.value idle → waited < 2 → ChangeCommand first (ended_from other) id command requests budget (Err (Stopped Budget)) 0) [
+          (elim ends as (λ result waited idle ends. result ≡ Ok tt → other ≡ with_value other.device.value idle → waited < 2 →
+          ChangeCommand first (ended_from other) id command requests budget (Err (Stopped Budget)) 0) [
             | IsAtOnce waited idle at sum ↦ λ e same few.
-                cut start 0 0 start other (same ∙ ap (λ (m : MachineState). with_value other.device.value m) at) unstarted.base (omega arith) (midway_none start _) (omega arith) (omega (arith, opened, sum, few))
+                cut start 0 0 start other (same ∙ ap (λ (m : MachineState). with_value other.device.value m) at) unstarted.base (omega arith)
+                (midway_none start _) (omega arith) (omega (arith, opened, sum, few))
             | IsShort idle which_one few_steps ↦ λ e same few. absurd (cc e)
           ]) is same short
 
   -- stopped in its checks
-  not_waited : (start : MachineState) (asked : ℕ) (error : ClientError) (left : ℕ) (last : MachineState) → (StartedChange first start id command) ⊎ (UnstartedChange first start id command) → asked + 4 ≡ budget
+  not_waited : (start : MachineState) (asked : ℕ) (error : ClientError) (left : ℕ) (last : MachineState) → (StartedChange first start id command) ⊎
+      (UnstartedChange first start id command) → asked + 4 ≡ budget
       → Waits (Allows tells) own_entries (own_client first).timings asked start (Err error) left last → ChangeCommand first (ended_from last) id command requests budget (Err error) left
   not_waited start asked error left last which opened waits = elim which [
     | inl started ↦ by_way started (Err error) left last refl (waited_way start started asked (Err error) left last waits)
@@ -302,7 +321,8 @@ module _ (tells : Type 0) (own : OwnProgramsRun tells) (told : tells) (first : M
   ]
     where
       by_way : (started : StartedChange first start id command) (result : Result (Unit {0}) ClientError) (left : ℕ) (last : MachineState) → result ≡ Err error
-          → WayWaited start (after first.device.store.layout command (records_of first)) (suc started.more) asked result left last → ChangeCommand first (ended_from last) id command requests budget (Err error) left
+          → WayWaited start (after first.device.store.layout command (records_of first)) (suc started.more) asked result left last →
+          ChangeCommand first (ended_from last) id command requests budget (Err error) left
       by_way started result left last is ends = (elim ends as (λ result left last ends. result ≡ Err error → ChangeCommand first (ended_from last) id command requests budget (Err error) left) [
         | WayEnds busy left last way sum ↦ λ e. absurd (cc e)
         | WayBreaks busy left last broken checks sum ↦ λ e. absurd (cc e)
@@ -311,7 +331,8 @@ module _ (tells : Type 0) (own : OwnProgramsRun tells) (told : tells) (first : M
             (stopped start (suc started.more) busy last.device.value 0 last started.base (omega (arith, started.all)) midway (omega (arith, checks)) (omega (arith, opened, short)))
       ]) is
 
-      by_still : (unstarted : UnstartedChange first start id command) (result : Result (Unit {0}) ClientError) (left : ℕ) (last : MachineState) → result ≡ Err error → StillWaited start asked result left last
+      by_still : (unstarted : UnstartedChange first start id command) (result : Result (Unit {0}) ClientError) (left : ℕ) (last : MachineState) →
+          result ≡ Err error → StillWaited start asked result left last
           → ChangeCommand first (ended_from last) id command requests budget (Err error) left
       by_still unstarted result left last is ends = (elim ends as (λ result left last ends. result ≡ Err error → ChangeCommand first (ended_from last) id command requests budget (Err error) left) [
         | IsAtOnce left last at sum ↦ λ e. absurd (cc e)
@@ -326,11 +347,13 @@ module _ (tells : Type 0) (own : OwnProgramsRun tells) (told : tells) (first : M
   not_opened : (w : MachineState) → Untouched first w → budget < 4 → ChangeCommand first (ended_from w) id command requests budget (Err (Stopped Budget)) 0
   not_opened w untouched short = stopped w 0 0 w.device.value 0 w (base_untouched first w untouched) (omega arith) (midway_none w _) (omega arith) (omega (arith, short))
 
-  pub change_command : ((result : Result (List ℕ) RunStop) (left : ℕ) (last : MachineState) → Asks (Allows tells) own_entries requests budget first result left last → Opened first IsStarted 4 budget result left last)
+  pub change_command : ((result : Result (List ℕ) RunStop) (left : ℕ) (last : MachineState) → Asks (Allows tells) own_entries requests budget first result left
+      last → Opened first IsStarted 4 budget result left last)
       → (result : Result (Unit {0}) ClientError) (left : ℕ) (last : MachineState) → Sequence (Allows tells) own_entries (own_client first).timings requests budget first result left last
       → ChangeCommand first last id command requests budget result left
   change_command opens result left last sequence =
-      elim (sequence_ends tells own (own_client first).timings requests budget first result left last sequence) as (λ result left last ends. ChangeCommand first last id command requests budget result left) [
+      elim (sequence_ends tells own (own_client first).timings requests budget first result left last sequence) as
+      (λ result left last ends. ChangeCommand first last id command requests budget result left) [
         | HasTold answers asked mid waited idle left asks waits spent ↦
             let opened = opened_ok first IsStarted 4 budget answers (Ok answers) asked mid refl (opens (Ok answers) asked mid asks) in
             has_told mid asked waited left idle opened.0 opened.1 waits spent
@@ -341,22 +364,27 @@ module _ (tells : Type 0) (own : OwnProgramsRun tells) (told : tells) (first : M
             let opened = opened_ok first IsStarted 4 budget answers (Ok answers) asked mid refl (opens (Ok answers) asked mid asks) in
             not_waited mid asked error left other opened.0 opened.1 waits
         | HasNotAsked stop left other asks ↦
-            opened_short first IsStarted 4 budget (λ stop left w. ChangeCommand first (ended_from w) id command requests budget (Err (Stopped stop)) left) stop (Err stop) left other not_opened refl (opens (Err stop) left other asks)
+            opened_short first IsStarted 4 budget (λ stop left w. ChangeCommand first (ended_from w) id command requests budget (Err (Stopped stop)) left) stop
+            (Err stop) left other not_opened refl (opens (Err stop) left other asks)
       ]
     where
-      still_told : (start idle : MachineState) (unstarted : UnstartedChange first start id command) (asked waited left : ℕ) (result : Result (Unit {0}) ClientError) → result ≡ Ok tt → asked + 4 ≡ budget → left + 2 ≡ waited
+      still_told : (start idle : MachineState) (unstarted : UnstartedChange first start id command) (asked waited left : ℕ)
+          (result : Result (Unit {0}) ClientError) → result ≡ Ok tt → asked + 4 ≡ budget → left + 2 ≡ waited
           → StillWaited start asked result waited idle → ChangeCommand first (ended_from (with_value (status_in idle) idle)) id command requests budget (judged (status_in idle)) left
       still_told start idle unstarted asked waited left result is opened spent ends =
-          (elim ends as (λ result waited idle ends. result ≡ Ok tt → left + 2 ≡ waited → ChangeCommand first (ended_from (with_value (status_in idle) idle)) id command requests budget (judged (status_in idle)) left) [
+          (elim ends as (λ result waited idle ends. result ≡ Ok tt → left + 2 ≡ waited → ChangeCommand first (ended_from (with_value (status_in idle) idle)) id
+          command requests budget (judged (status_in idle)) left) [
             | IsAtOnce waited idle at sum ↦ λ e behind.
                 subst (λ (m : MachineState). ChangeCommand first (ended_from (with_value (status_in m) m)) id command requests budget (judged (status_in m)) left) (sym at)
                 (told_still start unstarted asked left opened (omega (arith, sum, behind)))
             | IsShort idle which_one few ↦ λ e behind. absurd (cc e)
           ]) is spent
 
-      has_told : (start : MachineState) (asked waited left : ℕ) (idle : MachineState) → IsStarted start → asked + 4 ≡ budget → Waits (Allows tells) own_entries (own_client first).timings asked start (Ok tt) waited idle → left + 2 ≡ waited
+      has_told : (start : MachineState) (asked waited left : ℕ) (idle : MachineState) → IsStarted start → asked + 4 ≡ budget →
+          Waits (Allows tells) own_entries (own_client first).timings asked start (Ok tt) waited idle → left + 2 ≡ waited
           → ChangeCommand first (ended_from (with_value (status_in idle) idle)) id command requests budget (judged (status_in idle)) left
       has_told start asked waited left idle which opened waits spent = elim which [
         | inl started ↦ told_way start idle started asked waited left (Ok tt) refl opened spent (waited_way start started asked (Ok tt) waited idle waits)
-        | inr unstarted ↦ still_told start idle unstarted asked waited left (Ok tt) refl opened spent (wait_still tells own (own_client first).timings start unstarted.still asked (Ok tt) waited idle waits)
+        | inr unstarted ↦ still_told start idle unstarted asked waited left (Ok tt) refl opened spent (wait_still tells own (own_client first).timings start
+            unstarted.still asked (Ok tt) waited idle waits)
       ]

@@ -21,8 +21,11 @@ use Rattle.erst_client.proofs.RefusalLemmas.{copies}
 use Rattle.erst_client.specs.declared.errors.ClientError.TheVariants.{Stopped, Late, Range}
 use Rattle.erst_client.specs.declared.requests.Request.{Request}
 use Rattle.erst_client.specs.Requests.{Performs, Asks, NoneLeft, Answered as asked_one, StopsLater, StopsHere}
-use Rattle.erst_client.specs.Sequences.{Pauses, Untimed, Timed, TooOften, Busy, NotYet, Again, Waits, IsIdle, IsStopped, IsLate, judged, UntilStatus, NotAsked, NotWaited, NotTold, IsTold, Sequence, write_requests, read_requests}
-use Rattle.erst_client.specs.Commands.{ClientState, write_refusal, address_in, Puts, NotPut, NotMarked, IsPut, Writes, IsNoRecord, IsNotPut, IsAsked, copy_refusal, CopiesOut, IsFilled, IsNotFilled, copied, Reads, IsNotRead, HasNoLength, IsNotCopied, IsCopied, Counts, Names}
+use Rattle.erst_client.specs.Sequences.{Pauses, Untimed, Timed, TooOften, Busy, NotYet, Again, Waits, IsIdle, IsStopped, IsLate, judged, UntilStatus, NotAsked}
+use Rattle.erst_client.specs.Sequences.{NotWaited, NotTold, IsTold, Sequence, write_requests, read_requests}
+use Rattle.erst_client.specs.Commands.{ClientState, write_refusal, address_in, Puts, NotPut, NotMarked, IsPut, Writes, IsNoRecord, IsNotPut, IsAsked}
+use Rattle.erst_client.specs.Commands.{copy_refusal, CopiesOut, IsFilled, IsNotFilled, copied, Reads, IsNotRead, HasNoLength, IsNotCopied, IsCopied, Counts}
+use Rattle.erst_client.specs.Commands.{Names}
 use Rattle.erst_client.specs.Attaching.{Attaches, attach_requests}
 use Rattle.erst_commands.proofs.Dialogues.{Dialogue, Ends, Calls, go_on, Held, IsDone, Answered, done, then}
 use Rattle.erst_commands.proofs.RunDialogues.{answer_in, run_of, run_held}
@@ -166,7 +169,8 @@ copy_fits len range room is = (copies len range room is).fits
 
 module _ {W : Type 0} (allows : W → Call → W → Type 0) where
   module _ (entries : List Entry) where
-    perform_held : (action : Action) (given budget : ℕ) (old : W) (answer : Result ℕ RunStop) (left : ℕ) (new : W) → Performs allows entries action given budget old answer left new → Held allows (perform entries action given budget) old (answer, left) new
+    perform_held : (action : Action) (given budget : ℕ) (old : W) (answer : Result ℕ RunStop) (left : ℕ) (new : W) → Performs allows entries action given budget
+        old answer left new → Held allows (perform entries action given budget) old (answer, left) new
     unfolding perform
     perform_held action given budget old answer left new run = run_held allows (program_of (code_of action) entries) given budget old answer left new run
 
@@ -186,7 +190,8 @@ module _ {W : Type 0} (allows : W → Call → W → Type 0) where
       pause_held busy old result new pauses = elim pauses as (λ result new pauses. Held allows (pause entries timings busy) old result new) [
         | Untimed none ↦ subst (λ (t : Option (ℕ × ℕ)). Held allows (pause entries t busy) old (Ok tt) old) (sym none) (IsDone _ old)
         | Timed known new is within allowed ↦ subst (λ (t : Option (ℕ × ℕ)). Held allows (pause entries t busy) old (Ok tt) new) (sym is)
-            (subst (λ (b : Bool). Held allows (pause_if entries b busy) old (Ok tt) new) (sym (less_false known.0 (10 * busy) within)) (Answered _ _ old (Wait 10) new _ new refl allowed (IsDone _ new)))
+            (subst (λ (b : Bool). Held allows (pause_if entries b busy) old (Ok tt) new) (sym (less_false known.0 (10 * busy) within))
+            (Answered _ _ old (Wait 10) new _ new refl allowed (IsDone _ new)))
         | TooOften known is beyond ↦ subst (λ (t : Option (ℕ × ℕ)). Held allows (pause entries t busy) old (Err (Late (10 * (busy - 1)))) old) (sym is)
             (subst (λ (b : Bool). Held allows (pause_if entries b busy) old (Err (Late (10 * (busy - 1)))) old) (sym (less_true known.0 (10 * busy) beyond)) (IsDone _ old))
       ]
@@ -194,7 +199,8 @@ module _ {W : Type 0} (allows : W → Call → W → Type 0) where
       abbrev WaitHeld : ℕ → ℕ → W → Ended → W → Type 0
       WaitHeld busy left mid outcome last = (fuel : ℕ) → left < fuel → Held allows (wait_from entries timings fuel busy left) mid outcome last
 
-      checks_on : (fuel busy left : ℕ) (mid : W) (answer after : ℕ) (next new : W) (outcome : Ended) (last : W) → Performs allows entries CheckBusyStatus 0 left mid (Ok answer) after next → (answer ≡ 0 → ⊥)
+      checks_on : (fuel busy left : ℕ) (mid : W) (answer after : ℕ) (next new : W) (outcome : Ended) (last : W) → Performs allows entries CheckBusyStatus 0 left
+          mid (Ok answer) after next → (answer ≡ 0 → ⊥)
           → Pauses allows timings (suc busy) next (Ok tt) new → WaitHeld (suc busy) after new outcome last → left < fuel → Held allows (wait_from entries timings fuel busy left) mid outcome last
       checks_on zero busy left mid answer after next new outcome last performs more pauses rest enough = absurd (omega arith)
       checks_on (suc fuel) busy left mid answer after next new outcome last performs more pauses rest enough =
@@ -203,22 +209,26 @@ module _ {W : Type 0} (allows : W → Call → W → Type 0) where
           (subst (λ (b : Bool). Held allows (if_idle entries b timings busy (wait_from entries timings fuel (suc busy)) after) next outcome last) (sym (ne_eqb answer 0 more))
           (then _ (pause_held (suc busy) next (Ok tt) new pauses) (rest fuel (omega arith))))
 
-      busy_held : (budget : ℕ) (first : W) (busy left : ℕ) (mid : W) → Busy allows entries timings budget first busy left mid → (outcome : Ended) (last : W) → WaitHeld busy left mid outcome last → WaitHeld 0 budget first outcome last
-      busy_held budget first busy left mid was_busy = elim was_busy as (λ busy left mid was_busy. (outcome : Ended) (last : W) → WaitHeld busy left mid outcome last → WaitHeld 0 budget first outcome last) [
-        | NotYet ↦ λ outcome last rest. rest
-        | Again busy left mid answer after next new (was → before) performs more pauses ↦ λ outcome last rest. before outcome last
-            (λ fuel enough. checks_on fuel busy left mid answer after next new outcome last performs more pauses rest enough)
-      ]
+      busy_held : (budget : ℕ) (first : W) (busy left : ℕ) (mid : W) → Busy allows entries timings budget first busy left mid → (outcome : Ended) (last : W) →
+          WaitHeld busy left mid outcome last → WaitHeld 0 budget first outcome last
+      busy_held budget first busy left mid was_busy = elim was_busy as (λ busy left mid was_busy. (outcome : Ended) (last : W) →
+          WaitHeld busy left mid outcome last → WaitHeld 0 budget first outcome last) [
+            | NotYet ↦ λ outcome last rest. rest
+            | Again busy left mid answer after next new (was → before) performs more pauses ↦ λ outcome last rest. before outcome last
+                (λ fuel enough. checks_on fuel busy left mid answer after next new outcome last performs more pauses rest enough)
+          ]
 
       idle_held : (busy left : ℕ) (mid : W) (after : ℕ) (last : W) → Performs allows entries CheckBusyStatus 0 left mid (Ok 0) after last → WaitHeld busy left mid (Ok tt, after) last
       idle_held busy left mid after last performs zero enough = absurd (omega arith)
       idle_held busy left mid after last performs (suc fuel) enough = then _ (perform_held CheckBusyStatus 0 left mid (Ok 0) after last performs) (IsDone _ last)
 
-      stopped_held : (busy left : ℕ) (mid : W) (stop : RunStop) (after : ℕ) (last : W) → Performs allows entries CheckBusyStatus 0 left mid (Err stop) after last → WaitHeld busy left mid (Err (Stopped stop), after) last
+      stopped_held : (busy left : ℕ) (mid : W) (stop : RunStop) (after : ℕ) (last : W) → Performs allows entries CheckBusyStatus 0 left mid (Err stop) after
+          last → WaitHeld busy left mid (Err (Stopped stop), after) last
       stopped_held busy left mid stop after last performs zero enough = absurd (omega arith)
       stopped_held busy left mid stop after last performs (suc fuel) enough = then _ (perform_held CheckBusyStatus 0 left mid (Err stop) after last performs) (IsDone _ last)
 
-      late_held : (busy left : ℕ) (mid : W) (answer after : ℕ) (next : W) (error : ClientError) (last : W) → Performs allows entries CheckBusyStatus 0 left mid (Ok answer) after next → (answer ≡ 0 → ⊥)
+      late_held : (busy left : ℕ) (mid : W) (answer after : ℕ) (next : W) (error : ClientError) (last : W) → Performs allows entries CheckBusyStatus 0 left mid
+          (Ok answer) after next → (answer ≡ 0 → ⊥)
           → Pauses allows timings (suc busy) next (Err error) last → WaitHeld busy left mid (Err error, after) last
       late_held busy left mid answer after next error last performs more pauses zero enough = absurd (omega arith)
       late_held busy left mid answer after next error last performs more pauses (suc fuel) enough =
@@ -235,19 +245,23 @@ module _ {W : Type 0} (allows : W → Call → W → Type 0) where
             busy_held budget first busy left mid was _ last (late_held busy left mid answer after next error last performs more pauses) (suc budget) (omega arith)
       ]
 
-      until_held : (requests : List Request) (budget : ℕ) (first : W) (result : Result (Unit {0}) ClientError) (left : ℕ) (last : W) → UntilStatus allows entries timings requests budget first result left last
+      until_held : (requests : List Request) (budget : ℕ) (first : W) (result : Result (Unit {0}) ClientError) (left : ℕ) (last : W) →
+          UntilStatus allows entries timings requests budget first result left last
           → Held allows (until_status entries timings requests budget) first (result, left) last
       unfolding until_status
-      until_held requests budget first result left last until = elim until as (λ result left last until. Held allows (go_on (ask_all entries requests budget) (when_asked entries timings)) first (result, left) last) [
-        | NotAsked stop left last asks ↦ then _ (asks_held requests budget first (Err stop) left last asks) (IsDone _ last)
-        | NotWaited answers asked mid error left last asks waits ↦ then _ (asks_held requests budget first (Ok answers) asked mid asks) (then _ (waits_held asked mid (Err error) left last waits) (IsDone _ last))
-        | NotTold answers asked mid waited idle stop left last asks waits performs ↦ then _ (asks_held requests budget first (Ok answers) asked mid asks)
-            (then _ (waits_held asked mid (Ok tt) waited idle waits) (then _ (perform_held GetCommandStatus 0 waited idle (Err stop) left last performs) (IsDone _ last)))
-        | IsTold answers asked mid waited idle status left last asks waits performs ↦ then _ (asks_held requests budget first (Ok answers) asked mid asks)
-            (then _ (waits_held asked mid (Ok tt) waited idle waits) (then _ (perform_held GetCommandStatus 0 waited idle (Ok status) left last performs) (IsDone _ last)))
-      ]
+      until_held requests budget first result left last until =
+          elim until as (λ result left last until. Held allows (go_on (ask_all entries requests budget) (when_asked entries timings)) first (result, left) last) [
+            | NotAsked stop left last asks ↦ then _ (asks_held requests budget first (Err stop) left last asks) (IsDone _ last)
+            | NotWaited answers asked mid error left last asks waits ↦ then _ (asks_held requests budget first (Ok answers) asked mid asks)
+                (then _ (waits_held asked mid (Err error) left last waits) (IsDone _ last))
+            | NotTold answers asked mid waited idle stop left last asks waits performs ↦ then _ (asks_held requests budget first (Ok answers) asked mid asks)
+                (then _ (waits_held asked mid (Ok tt) waited idle waits) (then _ (perform_held GetCommandStatus 0 waited idle (Err stop) left last performs) (IsDone _ last)))
+            | IsTold answers asked mid waited idle status left last asks waits performs ↦ then _ (asks_held requests budget first (Ok answers) asked mid asks)
+                (then _ (waits_held asked mid (Ok tt) waited idle waits) (then _ (perform_held GetCommandStatus 0 waited idle (Ok status) left last performs) (IsDone _ last)))
+          ]
 
-      pub sequence_held : (requests : List Request) (budget : ℕ) (first : W) (result : Result (Unit {0}) ClientError) (left : ℕ) (last : W) → Sequence allows entries timings requests budget first result left last
+      pub sequence_held : (requests : List Request) (budget : ℕ) (first : W) (result : Result (Unit {0}) ClientError) (left : ℕ) (last : W) →
+          Sequence allows entries timings requests budget first result left last
           → Held allows (sequence entries timings requests budget) first (result, left) last
       unfolding sequence
       sequence_held requests budget first result left last ran =
@@ -257,21 +271,29 @@ module _ {W : Type 0} (allows : W → Call → W → Type 0) where
           ended_with : Result (Unit {0}) ClientError → ℕ → Ended
           ended_with r n = (r, n)
 
-    pub counts_held : (budget : ℕ) (first : W) (result : Result ℕ ClientError) (left : ℕ) (last : W) → Counts allows entries budget first result left last → Held allows (count entries budget) first (result, left) last
+    pub counts_held : (budget : ℕ) (first : W) (result : Result ℕ ClientError) (left : ℕ) (last : W) → Counts allows entries budget first result left last →
+        Held allows (count entries budget) first (result, left) last
     unfolding count
     counts_held budget first result left last counts =
-        then _ (perform_held GetRecordCount 0 budget first counts.answer left last counts.asks) (subst (λ (r : Result ℕ ClientError). Held {A = Result ℕ ClientError × ℕ} allows (Ends (counted counts.answer, left)) last (r, left) last) (sym counts.result_is) (IsDone _ last))
+        then _ (perform_held GetRecordCount 0 budget first counts.answer left last counts.asks)
+        (subst (λ (r : Result ℕ ClientError). Held {A = Result ℕ ClientError × ℕ} allows (Ends (counted counts.answer, left)) last (r, left) last)
+        (sym counts.result_is) (IsDone _ last))
 
-    pub names_held : (budget : ℕ) (first : W) (result : Result (Option ℕ) ClientError) (left : ℕ) (last : W) → Names allows entries budget first result left last → Held allows (name entries budget) first (result, left) last
+    pub names_held : (budget : ℕ) (first : W) (result : Result (Option ℕ) ClientError) (left : ℕ) (last : W) → Names allows entries budget first result left
+        last → Held allows (name entries budget) first (result, left) last
     unfolding name
     names_held budget first result left last names =
-        then _ (perform_held GetRecordIdentifier 0 budget first names.answer left last names.asks) (subst (λ (r : Result (Option ℕ) ClientError). Held {A = Result (Option ℕ) ClientError × ℕ} allows (Ends (named names.answer, left)) last (r, left) last) (sym names.result_is) (IsDone _ last))
+        then _ (perform_held GetRecordIdentifier 0 budget first names.answer left last names.asks)
+        (subst (λ (r : Result (Option ℕ) ClientError). Held {A = Result (Option ℕ) ClientError × ℕ} allows (Ends (named names.answer, left)) last (r, left)
+        last) (sym names.result_is) (IsDone _ last))
 
-  pub attaches_held : (erst : Erst) (budget : ℕ) (first : W) (result : Result ClientState AttachError) (left : ℕ) (last : W) → Attaches allows erst budget first result left last → Held allows (attach erst budget) first (result, left) last
+  pub attaches_held : (erst : Erst) (budget : ℕ) (first : W) (result : Result ClientState AttachError) (left : ℕ) (last : W) →
+      Attaches allows erst budget first result left last → Held allows (attach erst budget) first (result, left) last
   unfolding attach
   attaches_held erst budget first result left last attaches =
       then _ (asks_held erst.entries (attach_requests erst.entries) budget first attaches.answers left last attaches.asks)
-      (subst (λ (r : Result ClientState AttachError). Held {A = Result ClientState AttachError × ℕ} allows (Ends (attached erst attaches.answers, left)) last (r, left) last) (sym attaches.result_is) (IsDone _ last))
+      (subst (λ (r : Result ClientState AttachError). Held {A = Result ClientState AttachError × ℕ} allows (Ends (attached erst attaches.answers, left)) last
+      (r, left) last) (sym attaches.result_is) (IsDone _ last))
 
   puts_held : (address : ℕ) (bytes : List ℕ) (old : W) (result : Result (Unit {0}) ClientError) (new : W) → Puts allows address bytes old result new → Held allows (put address bytes) old result new
   unfolding put
@@ -283,16 +305,18 @@ module _ {W : Type 0} (allows : W → Call → W → Type 0) where
         (Answered _ _ mid (WriteBytes (address_in address 108) (codes "ER") (Ok tt)) last _ last refl marked (IsDone _ last))
   ]
 
-  pub writes_held : (client : ClientState) (bytes : List ℕ) (budget : ℕ) (first : W) (result : Result (Unit {0}) ClientError) (left : ℕ) (last : W) → Writes allows client bytes budget first result left last
+  pub writes_held : (client : ClientState) (bytes : List ℕ) (budget : ℕ) (first : W) (result : Result (Unit {0}) ClientError) (left : ℕ) (last : W) →
+      Writes allows client bytes budget first result left last
       → Held allows (write client bytes budget) first (result, left) last
   unfolding write
-  writes_held client bytes budget first result left last writes = elim writes as (λ result left last writes. Held allows (write_if client bytes budget (write_refusal bytes client.range)) first (result, left) last) [
-    | IsNoRecord error refused ↦ subst (λ (r : Option ClientError). Held allows (write_if client bytes budget r) first (Err error, budget) first) (sym refused) (IsDone _ first)
-    | IsNotPut error last taken puts ↦ subst (λ (r : Option ClientError). Held allows (write_if client bytes budget r) first (Err error, budget) last) (sym taken)
-        (then _ (puts_held client.address bytes first (Err error) last puts) (IsDone _ last))
-    | IsAsked mid result left last taken puts ran ↦ subst (λ (r : Option ClientError). Held allows (write_if client bytes budget r) first (result, left) last) (sym taken)
-        (then _ (puts_held client.address bytes first (Ok tt) mid puts) (sequence_held client.table.entries client.timings write_requests budget mid result left last ran))
-  ]
+  writes_held client bytes budget first result left last writes =
+      elim writes as (λ result left last writes. Held allows (write_if client bytes budget (write_refusal bytes client.range)) first (result, left) last) [
+        | IsNoRecord error refused ↦ subst (λ (r : Option ClientError). Held allows (write_if client bytes budget r) first (Err error, budget) first) (sym refused) (IsDone _ first)
+        | IsNotPut error last taken puts ↦ subst (λ (r : Option ClientError). Held allows (write_if client bytes budget r) first (Err error, budget) last) (sym taken)
+            (then _ (puts_held client.address bytes first (Err error) last puts) (IsDone _ last))
+        | IsAsked mid result left last taken puts ran ↦ subst (λ (r : Option ClientError). Held allows (write_if client bytes budget r) first (result, left) last) (sym taken)
+            (then _ (puts_held client.address bytes first (Ok tt) mid puts) (sequence_held client.table.entries client.timings write_requests budget mid result left last ran))
+      ]
 
   -- a read was held, and left these bytes at the start of its buffer
   pub record ReadHeld (client : ClientState) (id : ℕ) (out : List ℕ) (budget : ℕ) (first : W) (result : Result ℕ ClientError) (after : List ℕ) (left : ℕ) (last : W) : Type 0 where
@@ -301,7 +325,8 @@ module _ {W : Type 0} (allows : W → Call → W → Type 0) where
     pub filled : IfOk result (λ size. (size ≤ length out) × (after ≡ whole ++ drop size out))
 
   read_shown : (client : ClientState) (id : ℕ) (out : List ℕ) (budget : ℕ) (first : W) (left : ℕ) (mid : W) (outcome : Copied × ℕ) (last : W)
-      → Sequence allows client.table.entries client.timings (read_requests id) budget first (Ok tt) left mid → Held allows (when_shown client (length out) (Ok tt, left)) mid outcome last → Held allows (read client id (length out) budget) first outcome last
+      → Sequence allows client.table.entries client.timings (read_requests id) budget first (Ok tt) left mid →
+      Held allows (when_shown client (length out) (Ok tt, left)) mid outcome last → Held allows (read client id (length out) budget) first outcome last
   unfolding read
   read_shown client id out budget first left mid outcome last ran held = then _ (sequence_held client.table.entries client.timings (read_requests id) budget first (Ok tt) left mid ran) held
 
@@ -318,7 +343,8 @@ module _ {W : Type 0} (allows : W → Call → W → Type 0) where
       let buffer : length (replicate len 0) ≡ length (take len out) = length-replicate {A = ℕ} len 0 ∙ sym (length-take-le len out fits) in
       let asks : (answer : Result (Unit {0}) SpaceFault) → AskAlike (ReadBytes client.address (replicate len 0) [] (Ok tt)) (ReadBytes client.address (take len out) whole answer) =
       λ answer. ap (λ (n : ℕ). ReadBytes client.address (replicate n 0) [] (Ok tt)) buffer in
-      (elim copies as (λ answer new copies. ((outcome : Copied) → Held allows (copy_if client None len left) old (outcome, left) new → Held allows (read client id (length out) budget) first (outcome, left) new)
+      (elim copies as (λ answer new copies. ((outcome : Copied) → Held allows (copy_if client None len left) old (outcome, left) new →
+      Held allows (read client id (length out) budget) first (outcome, left) new)
       → ReadHeld client id out budget first (copied answer len) (whole ++ drop len out) left new) [
         | IsFilled new allowed ↦ λ rest. record {
           whole = whole;
@@ -332,7 +358,8 @@ module _ {W : Type 0} (allows : W → Call → W → Type 0) where
         }
       ]) rest
 
-  pub reads_held : (client : ClientState) (id : ℕ) (out : List ℕ) (budget : ℕ) (first : W) (result : Result ℕ ClientError) (after : List ℕ) (left : ℕ) (last : W) → Reads allows client id out budget first result after left last
+  pub reads_held : (client : ClientState) (id : ℕ) (out : List ℕ) (budget : ℕ) (first : W) (result : Result ℕ ClientError) (after : List ℕ) (left : ℕ)
+      (last : W) → Reads allows client id out budget first result after left last
       → ReadHeld client id out budget first result after left last
   reads_held client id out budget first result after left last reads =
       elim reads as (λ result after left last reads. ReadHeld client id out budget first result after left last) [

@@ -28,7 +28,8 @@ kept_length first last id result made = elim made as (λ result made. length las
   | IsFailed leaves rose range cursor ↦ ap length range
 ]
 
-ok_length : (first last : MachineState) (id budget : ℕ) (result : Result (Unit {0}) ClientError) (left : ℕ) → ReadCommand first last id budget result left → length last.memory.range ≡ length first.memory.range
+ok_length : (first last : MachineState) (id budget : ℕ) (result : Result (Unit {0}) ClientError) (left : ℕ) → ReadCommand first last id budget result left →
+    length last.memory.range ≡ length first.memory.range
 ok_length first last id budget result left command = elim command as (λ result left command. length last.memory.range ≡ length first.memory.range) [
   | Answers result left made spent ↦ kept_length first last id result made
   | StopsBehind result made least short ↦ kept_length first last id result made
@@ -39,23 +40,29 @@ module _ (tells : Type 0) (mid : MachineState) (reach : ℕ) (range_is : length 
   length_read : 24 ≤ reach → (field : List ℕ) (answer : Result (Unit {0}) SpaceFault) (new : MachineState) → Allows tells mid (ReadBytes 0x100014 (0 ∷ 0 ∷ 0 ∷ 0 ∷ []) field answer) new
       → (answer ≡ Ok tt) × (field ≡ part mid.memory.range 20 4) × (new ≡ mid)
   length_read long field answer new allowed =
-      let location = location-length (length mid.memory.range) (omega (arith, long, range_is)) in
-      (allowed.0 ∙ ap (λ (s : Location). (bytes_read s mid 0x100014 (0 ∷ 0 ∷ 0 ∷ 0 ∷ [])).0) location, allowed.1 ∙ ap (λ (s : Location). (bytes_read s mid 0x100014 (0 ∷ 0 ∷ 0 ∷ 0 ∷ [])).1) location, allowed.2)
+      let location = location-length (length mid.memory.range) (omega (arith, long, range_is)) in (
+        allowed.0 ∙ ap (λ (s : Location). (bytes_read s mid 0x100014 (0 ∷ 0 ∷ 0 ∷ 0 ∷ [])).0) location,
+        allowed.1 ∙ ap (λ (s : Location). (bytes_read s mid 0x100014 (0 ∷ 0 ∷ 0 ∷ 0 ∷ [])).1) location,
+        allowed.2,
+      )
 
-  range_read : (before after : List ℕ) (answer : Result (Unit {0}) SpaceFault) (new : MachineState) → 0 < length before → length before ≤ reach → Allows tells mid (ReadBytes 0x100000 before after answer) new
+  range_read : (before after : List ℕ) (answer : Result (Unit {0}) SpaceFault) (new : MachineState) → 0 < length before → length before ≤ reach →
+      Allows tells mid (ReadBytes 0x100000 before after answer) new
       → (answer ≡ Ok tt) × (after ≡ part mid.memory.range 0 (length before)) × (new ≡ mid)
   range_read before after answer new some fits allowed =
       let location = location-start (length mid.memory.range) (length before) some (omega (arith, fits, range_is)) in
       (allowed.0 ∙ ap (λ (s : Location). (bytes_read s mid 0x100000 before).0) location, allowed.1 ∙ ap (λ (s : Location). (bytes_read s mid 0x100000 before).1) location, allowed.2)
 
-  copied_out : (before after : List ℕ) (answer : Result (Unit {0}) ClientError) (new : MachineState) → 0 < length before → length before ≤ reach → CopiesOut (Allows tells) 0x100000 before after mid answer new
+  copied_out : (before after : List ℕ) (answer : Result (Unit {0}) ClientError) (new : MachineState) → 0 < length before → length before ≤ reach →
+      CopiesOut (Allows tells) 0x100000 before after mid answer new
       → (answer ≡ Ok tt) × (after ≡ part mid.memory.range 0 (length before)) × (new ≡ mid)
   copied_out before after answer new some fits copies = elim copies as (λ answer new copies. (answer ≡ Ok tt) × (after ≡ part mid.memory.range 0 (length before)) × (new ≡ mid)) [
     | IsFilled new allowed ↦ let read = range_read before after (Ok tt) new some fits allowed in (refl, read.1, read.2)
     | IsNotFilled fault new allowed ↦ absurd (no_fault fault (range_read before after (Err fault) new some fits allowed).0)
   ]
 
-pub read_out : (tells : Type 0) → OwnProgramsRun tells → tells → (id : ℕ) (out : List ℕ) (budget : ℕ) (first : MachineState) (result : Result ℕ ClientError) (after : List ℕ) (left : ℕ) (last : MachineState) → IsMachine first → id < 2 ^ 64
+pub read_out : (tells : Type 0) → OwnProgramsRun tells → tells → (id : ℕ) (out : List ℕ) (budget : ℕ) (first : MachineState) (result : Result ℕ ClientError)
+    (after : List ℕ) (left : ℕ) (last : MachineState) → IsMachine first → id < 2 ^ 64
     → 128 ≤ reach_in first.device → Reads (Allows tells) (own_client first) id out budget first result after left last → ReadAnswered id out budget first result after left last
 read_out tells own told id out budget first result after left last machine small long reads =
     elim reads as (λ result after left last reads. ReadAnswered id out budget first result after left last) [
@@ -80,7 +87,8 @@ read_out tells own told id out budget first result after left last machine small
     length_of : (mid : MachineState) (field : List ℕ) → field ≡ part mid.memory.range 20 4 → number_at field 0 4 ≡ number_at mid.memory.range 20 4
     length_of mid field is = ap (λ (xs : List ℕ). number_at xs 0 4) is ∙ number_at-part mid.memory.range 20 4 0 4 (omega arith)
 
-    by_length : (mid : MachineState) (field : List ℕ) (next : MachineState) (whole : List ℕ) (answer : Result (Unit {0}) ClientError) (last : MachineState) (left : ℕ) → ReadCommand first mid id budget (Ok tt) left
+    by_length : (mid : MachineState) (field : List ℕ) (next : MachineState) (whole : List ℕ) (answer : Result (Unit {0}) ClientError) (last : MachineState)
+        (left : ℕ) → ReadCommand first mid id budget (Ok tt) left
         → (len : ℕ) → len ≡ number_at mid.memory.range 20 4 → next ≡ mid → copy_refusal len (reach_in first.device) (length out) ≡ None
         → CopiesOut (Allows tells) 0x100000 (take len out) whole next answer last → ReadAnswered id out budget first (copied answer len) (whole ++ drop len out) left last
     by_length mid field next whole answer last left command len len_is next_is taken copying =

@@ -12,7 +12,9 @@ use Rattle.record_store.specs.Store.{StoreView, Pending, Idle, Writing, Clearing
 use Rattle.record_store.specs.Calls.{OnlyLooks}
 use Rattle.record_store.specs.declared.errors.StoreError.{StoreError}
 use Rattle.erst_entries.specs.declared.actions.Action.{Action}
-use Rattle.erst_entries.specs.declared.actions.Action.TheVariants.{BeginWriteOperation, BeginReadOperation, BeginClearOperation, EndOperation, SetRecordOffset, ExecuteOperation, CheckBusyStatus, GetRecordIdentifier, SetRecordIdentifier, GetRecordCount, BeginDummyWriteOperation}
+use Rattle.erst_entries.specs.declared.actions.Action.TheVariants.{BeginWriteOperation, BeginReadOperation, BeginClearOperation, EndOperation, SetRecordOffset}
+use Rattle.erst_entries.specs.declared.actions.Action.TheVariants.{ExecuteOperation, CheckBusyStatus, GetRecordIdentifier, SetRecordIdentifier, GetRecordCount}
+use Rattle.erst_entries.specs.declared.actions.Action.TheVariants.{BeginDummyWriteOperation}
 use Rattle.erst_device.specs.declared.registers.Operation.{Operation}
 use Rattle.erst_device.specs.declared.registers.Operation.TheVariants.{Write, Read, Clear, Dummy}
 use Rattle.erst_device.specs.declared.status.CommandStatus.{CommandStatus}
@@ -21,9 +23,11 @@ use Rattle.erst_device.specs.Drafts.{draft_at}
 use Rattle.erst_device.specs.StoreCalls.{Stepped, StartedWrite, StartedClear, FoundNext, Counted, ReadOut}
 use Rattle.erst_device.specs.DeviceState.{DeviceState, IsStill, IsRunning, Reads, Changes, is_busy, given_up, KnowsCopies}
 use Rattle.erst_device.specs.Starts.{named, HasLength, Starts, NoneBegun, WritesDummy, NoDraft, Writes, LookFails, FindsNone, Misses, GoesBeyond, Finds, NoneToClear, Clears, status_after}
-use Rattle.erst_device.specs.Actions.{told_by, begun_by, waits, gives_up, stepped, shown, found, counted, Acts, Begins, Ends, SetsOffset, SetsId, Waits, Executes, NoneRuns, Steps, Shows, Tells, FindsNext, Counts, Ignores}
+use Rattle.erst_device.specs.Actions.{told_by, begun_by, waits, gives_up, stepped, shown, found, counted, Acts, Begins, Ends, SetsOffset, SetsId, Waits}
+use Rattle.erst_device.specs.Actions.{Executes, NoneRuns, Steps, Shows, Tells, FindsNext, Counts, Ignores}
 use Rattle.erst_commands.specs.Equivalence.{StoreOutline, DeviceOutline, unplaced, store_outline, device_outline, FailsNothing}
-use Rattle.erst_commands.proofs.StoreOutlines.{looked, gave_up, changed, started, status_by, is_idle, write_pending, given_up_outline, only_looked, has_changed, write_started, clear_started, answers_ok}
+use Rattle.erst_commands.proofs.StoreOutlines.{looked, gave_up, changed, started, status_by, is_idle, write_pending, given_up_outline, only_looked, has_changed}
+use Rattle.erst_commands.proofs.StoreOutlines.{write_started, clear_started, answers_ok}
 
 -- What an action makes of an outline
 
@@ -178,7 +182,8 @@ running_is old runs = elim runs [
 
 -- An action that looks for nothing
 
-plain : (action : Option Action) (old new : DeviceOutline) (range after : List ℕ) → looks action old ≡ None → new ≡ become action old range None → after ≡ range_after action old range → Became action old range new after
+plain : (action : Option Action) (old new : DeviceOutline) (range after : List ℕ) → looks action old ≡ None → new ≡ become action old range None →
+    after ≡ range_after action old range → Became action old range new after
 plain action old new range after none is range_is = record {
   next = None;
   is_found = subst (λ (l : Option ℕ). IsFound l old.store.records None) (sym none) refl;
@@ -204,7 +209,8 @@ begins BeginDummyWriteOperation operation old range by knows = plain (Some Begin
 begins action operation old range by knows = absurd (none-some operation by)
 
 -- one that waits for an execution
-waiting : (action : Action) (old : DeviceState) (range : List ℕ) → waits action ≡ true → running (device_outline old) ≡ true → Became (Some action) (device_outline old) range (device_outline old) range
+waiting : (action : Action) (old : DeviceState) (range : List ℕ) → waits action ≡ true → running (device_outline old) ≡ true →
+    Became (Some action) (device_outline old) range (device_outline old) range
 waiting SetRecordOffset old range w runs =
     plain (Some SetRecordOffset) _ _ range range refl (sym (ap (λ (b : Bool). if b then device_outline old else record (device_outline old) { offset = old.value }) runs)) refl
 waiting SetRecordIdentifier old range w runs =
@@ -239,7 +245,8 @@ record HasBegun (old : DeviceState) (range : List ℕ) (new : DeviceOutline) : T
   is_found : IsFound (start_looks old.operation) (stored old.store) next
   outline : new ≡ start old.operation (device_outline old) range next
 
-by_operation : (old : DeviceState) (range : List ℕ) (new : DeviceOutline) (operation : Option Operation) (next : Option ℕ) → old.operation ≡ operation → IsFound (start_looks operation) (stored old.store) next
+by_operation : (old : DeviceState) (range : List ℕ) (new : DeviceOutline) (operation : Option Operation) (next : Option ℕ) → old.operation ≡ operation →
+    IsFound (start_looks operation) (stored old.store) next
     → new ≡ start operation (device_outline old) range next → HasBegun old range new
 by_operation old range new operation next is is_found outline = record {
   next = next;
@@ -259,20 +266,23 @@ within_is range offset size long is within = grind (arith, nat_tests)
 
 module _ (tells : Type 0) (told : tells) (old : DeviceState) (range : List ℕ) where
   written : (size id : ℕ) (store : StoreView) (result : Result (Unit {0}) StoreError) → old.operation ≡ Some Write → draft_at old.offset range ≡ Some (size, id)
-      → StartedWrite tells old.store store id (part range old.offset size) result → FailsNothing old.store store → HasBegun old range (device_outline (record old { status = status_after result; store = store }))
+      → StartedWrite tells old.store store id (part range old.offset size) result → FailsNothing old.store store →
+      HasBegun old range (device_outline (record old { status = status_after result; store = store }))
   written size id store result is draft call quiet =
       let started = write_started tells told old.store store id (part range old.offset size) result quiet call in
       by_operation old range _ (Some Write) None is refl
       (with_status (device_outline old) _ _ _ _ started.status started.outline ∙ sym (ap (λ (d : Option (ℕ × ℕ)). start_write d (device_outline old) range) draft))
 
-  cleared : (store : StoreView) (result : Result (Unit {0}) StoreError) → old.operation ≡ Some Clear → is_reserved old.id ≡ false → StartedClear tells old.store store old.id result → FailsNothing old.store store
+  cleared : (store : StoreView) (result : Result (Unit {0}) StoreError) → old.operation ≡ Some Clear → is_reserved old.id ≡ false →
+      StartedClear tells old.store store old.id result → FailsNothing old.store store
       → HasBegun old range (device_outline (record old { status = status_after result; store = store }))
   cleared store result is allowed call quiet =
       let started = clear_started tells told old.store store old.id result quiet call in
       by_operation old range _ (Some Clear) None is refl
       (with_status (device_outline old) _ _ _ _ started.status started.outline ∙ sym (ap (λ (b : Bool). start_clear b (device_outline old)) allowed))
 
-  looks_for : (store : StoreView) (cursor : ℕ) (next : Option ℕ) → FoundNext tells old.store store cursor (Ok next) → FailsNothing old.store store → store_outline store ≡ looked (store_outline old.store)
+  looks_for : (store : StoreView) (cursor : ℕ) (next : Option ℕ) → FoundNext tells old.store store cursor (Ok next) → FailsNothing old.store store →
+      store_outline store ≡ looked (store_outline old.store)
   looks_for store cursor next look quiet = only_looked {T = Option ℕ} tells told old.store store (Ok next) quiet look.leaves
 
   shows_kept : (store : StoreView) (least size : ℕ) (beyond : Bool) → HasLength (stored old.store) (named old.id least) size → nat_lt (length range) (old.offset + size) ≡ beyond
@@ -314,7 +324,8 @@ module _ (tells : Type 0) (told : tells) (old : DeviceState) (range : List ℕ) 
       }
 
   -- an execution goes on
-  step_made : (store : StoreView) (result : Result Bool StoreError) → old.reading ≡ None → IsBusy old.store.pending → Stepped tells old.store store result → FailsNothing old.store (stepped result store old).store
+  step_made : (store : StoreView) (result : Result Bool StoreError) → old.reading ≡ None → IsBusy old.store.pending → Stepped tells old.store store result →
+      FailsNothing old.store (stepped result store old).store
       → Became (Some CheckBusyStatus) (device_outline old) range (device_outline (stepped result store old)) range
   step_made store (Ok last) none busy step quiet =
       let made = has_changed tells told old.store store (Ok last) quiet step in
@@ -334,7 +345,8 @@ module _ (tells : Type 0) (told : tells) (old : DeviceState) (range : List ℕ) 
       let out_is : out ≡ body_of (get (stored old.store) id) before =
       answer.3 ∙ ap (λ (n : ℕ). answer.0 ++ drop n before) answer.2 ∙ sym (ap (λ (k : Option (List ℕ × ℕ)). body_of k before) answer.1.1) in
       plain (Some CheckBusyStatus) _ _ range _ refl
-      (ap (λ (s : StoreOutline). record (device_outline old) { value = 0; status = Success; cursor = id; reading = None; store = s }) (only_looked {T = ℕ} tells told old.store store (Ok size) quiet read.leaves)
+      (ap (λ (s : StoreOutline). record (device_outline old) { value = 0; status = Success; cursor = id; reading = None; store = s })
+      (only_looked {T = ℕ} tells told old.store store (Ok size) quiet read.leaves)
       ∙ sym (ap (λ (r : Option ℕ). go_on r (device_outline old)) reading))
       (ap (λ (xs : List ℕ). take old.offset range ++ xs) out_is ∙ sym (ap (λ (r : Option ℕ). range_shown r (device_outline old) range) reading))
   record_shown id store out (Err error) reading read quiet = absurd (answers_ok ℕ old.store store error (read.error told) quiet read.leaves.cause)
@@ -349,7 +361,8 @@ module _ (tells : Type 0) (told : tells) (old : DeviceState) (range : List ℕ) 
   found_device store (Some id) is = ap (λ (s : StoreOutline). record (device_outline old) { value = id; cursor = id; reading = None; store = s }) is
   found_device store None is = ap (λ (s : StoreOutline). record (device_outline old) { value = 2 ^ 64 - 1; cursor = 0; reading = None; store = s }) is
 
-  next_found : (store : StoreView) (result : Result (Option ℕ) StoreError) → KnowsCopies old.store → FoundNext tells (given_up old).store store old.cursor result → FailsNothing old.store (found result store (given_up old)).store
+  next_found : (store : StoreView) (result : Result (Option ℕ) StoreError) → KnowsCopies old.store → FoundNext tells (given_up old).store store old.cursor
+      result → FailsNothing old.store (found result store (given_up old)).store
       → Became (Some GetRecordIdentifier) (device_outline old) range (device_outline (found result store (given_up old))) range
   next_found store (Ok (Some id)) knows look quiet = record {
     next = Some id;
@@ -365,7 +378,8 @@ module _ (tells : Type 0) (told : tells) (old : DeviceState) (range : List ℕ) 
   }
   next_found store (Err error) knows look quiet = absurd (answers_ok (Option ℕ) (given_up old).store store error look.error quiet look.leaves.cause)
 
-  count_made : (store : StoreView) (result : Result ℕ StoreError) → KnowsCopies old.store → Counted tells (given_up old).store store result → FailsNothing old.store (counted result store (given_up old)).store
+  count_made : (store : StoreView) (result : Result ℕ StoreError) → KnowsCopies old.store → Counted tells (given_up old).store store result →
+      FailsNothing old.store (counted result store (given_up old)).store
       → Became (Some GetRecordCount) (device_outline old) range (device_outline (counted result store (given_up old))) range
   count_made store (Ok n) knows count quiet =
       plain (Some GetRecordCount) _ _ range range refl
@@ -375,30 +389,33 @@ module _ (tells : Type 0) (told : tells) (old : DeviceState) (range : List ℕ) 
   count_made store (Err error) knows count quiet = absurd (answers_ok ℕ (given_up old).store store error count.error quiet count.leaves.cause)
 
   -- an action, by its one case
-  pub became : (action : Option Action) (new : DeviceState) (after : List ℕ) → Acts tells old range action new after → (gives_up action ≡ true → KnowsCopies old.store) → FailsNothing old.store new.store
+  pub became : (action : Option Action) (new : DeviceState) (after : List ℕ) → Acts tells old range action new after →
+      (gives_up action ≡ true → KnowsCopies old.store) → FailsNothing old.store new.store
       → Became action (device_outline old) range (device_outline new) after
-  became action new after acts = elim acts as (λ action new after acts. (gives_up action ≡ true → KnowsCopies old.store) → FailsNothing old.store new.store → Became action (device_outline old) range (device_outline new) after) [
-    | Begins act operation by ↦ λ knows quiet. begins act operation old range by knows
-    | Ends ↦ λ knows quiet. plain (Some EndOperation) _ _ range range refl (ap (λ (d : DeviceOutline). record d { operation = None }) (given_up_device old (knows refl))) refl
-    | SetsOffset still ↦ λ knows quiet. plain (Some SetRecordOffset) _ _ range range refl
-        (sym (ap (λ (b : Bool). if b then device_outline old else record (device_outline old) { offset = old.value }) (still_is old still))) refl
-    | SetsId still ↦ λ knows quiet. plain (Some SetRecordIdentifier) _ _ range range refl
-        (sym (ap (λ (b : Bool). if b then device_outline old else record (device_outline old) { id = old.value }) (still_is old still))) refl
-    | Waits act w runs ↦ λ knows quiet. waiting act old range w (running_is old runs)
-    | Executes new still starts ↦ λ knows quiet. executed new still starts quiet
-    | NoneRuns still ↦ λ knows quiet. plain (Some CheckBusyStatus) _ _ range range refl
-        (sym (ap (λ (r : Option ℕ). go_on r (device_outline old)) still.no_read ∙ ap (λ (p : Pending). step_on (is_busy (unplaced p)) (device_outline old)) still.no_change))
-        (sym (ap (λ (r : Option ℕ). range_shown r (device_outline old) range) still.no_read))
-    | Steps store result none busy step ↦ λ knows quiet. step_made store result none busy step quiet
-    | Shows id store out result reading read ↦ λ knows quiet. record_shown id store out result reading read quiet
-    | Tells act number told ↦ λ knows quiet. telling act old range number told
-    | FindsNext store result look allowed ↦ λ knows quiet. next_found store result (knows refl) look quiet
-    | Counts store result count ↦ λ knows quiet. count_made store result (knows refl) count quiet
-    | Ignores ↦ λ knows quiet. plain None _ _ range range refl refl refl
-  ]
+  became action new after acts = elim acts as (λ action new after acts. (gives_up action ≡ true → KnowsCopies old.store) → FailsNothing old.store new.store →
+      Became action (device_outline old) range (device_outline new) after) [
+        | Begins act operation by ↦ λ knows quiet. begins act operation old range by knows
+        | Ends ↦ λ knows quiet. plain (Some EndOperation) _ _ range range refl (ap (λ (d : DeviceOutline). record d { operation = None }) (given_up_device old (knows refl))) refl
+        | SetsOffset still ↦ λ knows quiet. plain (Some SetRecordOffset) _ _ range range refl
+            (sym (ap (λ (b : Bool). if b then device_outline old else record (device_outline old) { offset = old.value }) (still_is old still))) refl
+        | SetsId still ↦ λ knows quiet. plain (Some SetRecordIdentifier) _ _ range range refl
+            (sym (ap (λ (b : Bool). if b then device_outline old else record (device_outline old) { id = old.value }) (still_is old still))) refl
+        | Waits act w runs ↦ λ knows quiet. waiting act old range w (running_is old runs)
+        | Executes new still starts ↦ λ knows quiet. executed new still starts quiet
+        | NoneRuns still ↦ λ knows quiet. plain (Some CheckBusyStatus) _ _ range range refl
+            (sym (ap (λ (r : Option ℕ). go_on r (device_outline old)) still.no_read ∙ ap (λ (p : Pending). step_on (is_busy (unplaced p)) (device_outline old)) still.no_change))
+            (sym (ap (λ (r : Option ℕ). range_shown r (device_outline old) range) still.no_read))
+        | Steps store result none busy step ↦ λ knows quiet. step_made store result none busy step quiet
+        | Shows id store out result reading read ↦ λ knows quiet. record_shown id store out result reading read quiet
+        | Tells act number told ↦ λ knows quiet. telling act old range number told
+        | FindsNext store result look allowed ↦ λ knows quiet. next_found store result (knows refl) look quiet
+        | Counts store result count ↦ λ knows quiet. count_made store result (knows refl) count quiet
+        | Ignores ↦ λ knows quiet. plain None _ _ range range refl refl refl
+      ]
 
 -- two devices whose outlines are the same
-pub became_alike : (action : Option Action) (one other : DeviceOutline) (range : List ℕ) (one_after : DeviceOutline) (one_range : List ℕ) (other_after : DeviceOutline) (other_range : List ℕ) → one ≡ other
+pub became_alike : (action : Option Action) (one other : DeviceOutline) (range : List ℕ) (one_after : DeviceOutline) (one_range : List ℕ)
+    (other_after : DeviceOutline) (other_range : List ℕ) → one ≡ other
     → Became action one range one_after one_range → Became action other range other_after other_range → (one_after ≡ other_after) × (one_range ≡ other_range)
 became_alike action one other range one_after one_range other_after other_range equivalent first second =
     let back = subst (λ (o : DeviceOutline). Became action o range other_after other_range) (sym equivalent) second in

@@ -78,7 +78,8 @@ module _ {W : Type 0} (allows : W → Call → W → Type 0) (faults : W → ℕ
       let more = held_grows (next (answered held.0)) held.1 x new held.4 in
       omega arith
 
-  held_alike : {A : Type 0} (dialogue : Dialogue A) (one other : W) (x y : A) (one_after other_after : W) → equivalent one other → HeldBy allows dialogue one x one_after → (Rose (faults one) (faults one_after) → ⊥)
+  held_alike : {A : Type 0} (dialogue : Dialogue A) (one other : W) (x y : A) (one_after other_after : W) → equivalent one other →
+      HeldBy allows dialogue one x one_after → (Rose (faults one) (faults one_after) → ⊥)
       → HeldBy allows dialogue other y other_after → (Rose (faults other) (faults other_after) → ⊥) → (x ≡ y) × equivalent one_after other_after
   held_alike (Ends z) one other x y one_after other_after related first quiet second also_quiet =
       (first.0 ∙ sym second.0, subst (λ (w : W). equivalent w other_after) (sym first.1) (subst (λ (w : W). equivalent one w) (sym second.1) related))
@@ -95,7 +96,8 @@ module _ {W : Type 0} (allows : W → Call → W → Type 0) (faults : W → ℕ
       first.4 (quiet_second (faults one) (faults first.1) (faults one_after) one_step one_rest quiet)
       rest (quiet_second (faults other) (faults second.1) (faults other_after) other_step other_rest also_quiet)
 
-  pub ends_alike : {A : Type 0} (dialogue : Dialogue A) (one other : W) (x y : A) (one_after other_after : W) → equivalent one other → Held allows dialogue one x one_after → (Rose (faults one) (faults one_after) → ⊥)
+  pub ends_alike : {A : Type 0} (dialogue : Dialogue A) (one other : W) (x y : A) (one_after other_after : W) → equivalent one other →
+      Held allows dialogue one x one_after → (Rose (faults one) (faults one_after) → ⊥)
       → Held allows dialogue other y other_after → (Rose (faults other) (faults other_after) → ⊥) → (x ≡ y) × equivalent one_after other_after
   ends_alike dialogue one other x y one_after other_after related first quiet second also_quiet =
       held_alike dialogue one other x y one_after other_after related (held_by allows dialogue one x one_after first) quiet (held_by allows dialogue other y other_after second) also_quiet

@@ -46,7 +46,8 @@ same_error x y e = cc
 
 -- a command with the steps of all its changes is not stopped
 pub not_stopped : (first last : MachineState) (id : ℕ) (command : Command) (requests : List Request) (budget : ℕ) (result : Result (Unit {0}) ClientError) (left : ℕ)
-    → steps_needed own_entries requests (max 1 (changes_of first.device.store.layout command (records_of first))) ≤ budget → ChangeCommand first last id command requests budget result left → result ≡ Err (Stopped Budget) → ⊥
+    → steps_needed own_entries requests (max 1 (changes_of first.device.store.layout command (records_of first))) ≤ budget → ChangeCommand first last id command
+    requests budget result left → result ≡ Err (Stopped Budget) → ⊥
 not_stopped first last id command requests budget result left enough made = elim made as (λ result left made. result ≡ Err (Stopped Budget) → ⊥) [
   | IsTaken pauses left taken now is spent ↦ λ e. absurd (cc e)
   | IsRefused refusal error left refused is now made spent ↦ λ e. refused_no_stop error refusal is (same_error error (Stopped Budget) e)

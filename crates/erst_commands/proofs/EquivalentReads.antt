@@ -31,7 +31,8 @@ use Rattle.erst_commands.proofs.MachineDialogues.{pair_alike}
 shared_length : (state : MachineState) → IsMachine state → length state.memory.shared.bytes ≡ 8192
 shared_length state machine = sym machine.stands.1.windows.fills.as_long ∙ ap total machine.sizes.shared
 
-area_length : (area : Area) (start at : ℕ) (state : MachineState) (before : List ℕ) → IsMachine state → start + length before ≤ size_of (length state.memory.range) area → length (bytes_read (Inside area start) state at before).1 ≡ length before
+area_length : (area : Area) (start at : ℕ) (state : MachineState) (before : List ℕ) → IsMachine state →
+    start + length before ≤ size_of (length state.memory.range) area → length (bytes_read (Inside area start) state at before).1 ≡ length before
 area_length Device start at state before machine fits = refl
 area_length Scratch start at state before machine fits = length-part state.memory.scratch start (length before) (omega (arith, fits, machine.sizes.scratch))
 area_length LogRange start at state before machine fits = length-part state.memory.range start (length before) fits
@@ -39,12 +40,14 @@ area_length Handover start at state before machine fits = length-part state.memo
 area_length BootErrors start at state before machine fits = length-part state.memory.region start (length before) (omega (arith, fits, machine.sizes.region))
 area_length Ports start at state before machine fits = length-part state.memory.ports start (length before) (omega (arith, fits, machine.sizes.ports))
 
-location_length : (location : Location) (at : ℕ) (state : MachineState) (before : List ℕ) → IsMachine state → IsPlaced (length state.memory.range) (length before) location → length (bytes_read location state at before).1 ≡ length before
+location_length : (location : Location) (at : ℕ) (state : MachineState) (before : List ℕ) → IsMachine state → IsPlaced (length state.memory.range)
+    (length before) location → length (bytes_read location state at before).1 ≡ length before
 location_length (Inside area start) at state before machine fits = area_length area start at state before machine fits
 location_length (Beyond area address) at state before machine fits = refl
 location_length (Nowhere address) at state before machine fits = refl
 
-area_left : (area : Area) (start at : ℕ) (state : MachineState) (before : List ℕ) (fault : SpaceFault) → (bytes_read (Inside area start) state at before).0 ≡ Err fault → (bytes_read (Inside area start) state at before).1 ≡ before
+area_left : (area : Area) (start at : ℕ) (state : MachineState) (before : List ℕ) (fault : SpaceFault) → (bytes_read (Inside area start) state at before).0
+    ≡ Err fault → (bytes_read (Inside area start) state at before).1 ≡ before
 area_left Device start at state before fault is = refl
 area_left Scratch start at state before fault is = absurd (cc)
 area_left LogRange start at state before fault is = absurd (cc)
@@ -52,7 +55,8 @@ area_left Handover start at state before fault is = absurd (cc)
 area_left BootErrors start at state before fault is = absurd (cc)
 area_left Ports start at state before fault is = absurd (cc)
 
-location_left : (location : Location) (at : ℕ) (state : MachineState) (before : List ℕ) (fault : SpaceFault) → (bytes_read location state at before).0 ≡ Err fault → (bytes_read location state at before).1 ≡ before
+location_left : (location : Location) (at : ℕ) (state : MachineState) (before : List ℕ) (fault : SpaceFault) → (bytes_read location state at before).0
+    ≡ Err fault → (bytes_read location state at before).1 ≡ before
 location_left (Inside area start) at state before fault is = area_left area start at state before fault is
 location_left (Beyond area address) at state before fault is = refl
 location_left (Nowhere address) at state before fault is = refl
@@ -66,7 +70,8 @@ whole_length : (whole out : List ℕ) (len : ℕ) → length whole ≡ length (t
 whole_length whole out len is fits = omega (arith, length-append whole (drop len out), length-drop len out, length-take-le len out fits, is)
 
 module _ (tells : Type 0) where
-  copies_length : (address : ℕ) (before after : List ℕ) (state : MachineState) (answer : Result (Unit {0}) ClientError) (new : MachineState) → IsMachine state → CopiesOut (Allows tells) address before after state answer new → length after ≡ length before
+  copies_length : (address : ℕ) (before after : List ℕ) (state : MachineState) (answer : Result (Unit {0}) ClientError) (new : MachineState) → IsMachine state →
+      CopiesOut (Allows tells) address before after state answer new → length after ≡ length before
   copies_length address before after state answer new machine copies =
       let fits = location_length (location_of state (Memory address) (length before)) address state before machine (location_placed (length state.memory.range) (Memory address) (length before)) in
       elim copies as (λ answer new copies. length after ≡ length before) [
@@ -74,16 +79,19 @@ module _ (tells : Type 0) where
         | IsNotFilled fault new allowed ↦ ap (λ (xs : List ℕ). length xs) allowed.1 ∙ fits
       ]
 
-  copies_left : (address len : ℕ) (out whole : List ℕ) (state : MachineState) (answer : Result (Unit {0}) ClientError) (new : MachineState) (error : ClientError) → CopiesOut (Allows tells) address (take len out) whole state answer new
+  copies_left : (address len : ℕ) (out whole : List ℕ) (state : MachineState) (answer : Result (Unit {0}) ClientError) (new : MachineState)
+      (error : ClientError) → CopiesOut (Allows tells) address (take len out) whole state answer new
       → copied answer len ≡ Err error → whole ++ drop len out ≡ out
   copies_left address len out whole state answer new error copies = elim copies as (λ answer new copies. copied answer len ≡ Err error → whole ++ drop len out ≡ out) [
     | IsFilled new allowed ↦ λ is. absurd (cc)
     | IsNotFilled fault new allowed ↦ λ is.
-        ap (λ (xs : List ℕ). xs ++ drop len out) (allowed.1 ∙ location_left (location_of state (Memory address) (length (take len out))) address state (take len out) fault (sym allowed.0)) ∙ take-append-drop {A = ℕ} len out
+        ap (λ (xs : List ℕ). xs ++ drop len out) (allowed.1 ∙ location_left (location_of state (Memory address) (length (take len out))) address state
+        (take len out) fault (sym allowed.0)) ∙ take-append-drop {A = ℕ} len out
   ]
 
   module _ (client : ClientState) (id : ℕ) (out : List ℕ) (budget : ℕ) (first : MachineState) where
-    read_length : IsMachine first → (result : Result ℕ ClientError) (after : List ℕ) (left : ℕ) (last : MachineState) → Reads (Allows tells) client id out budget first result after left last → length after ≡ length out
+    read_length : IsMachine first → (result : Result ℕ ClientError) (after : List ℕ) (left : ℕ) (last : MachineState) →
+        Reads (Allows tells) client id out budget first result after left last → length after ≡ length out
     read_length machine result after left last reads = elim reads as (λ result after left last reads. length after ≡ length out) [
       | IsNotRead error left last ran ↦ refl
       | HasNoLength left mid field fault last ran long ↦ refl
@@ -91,10 +99,12 @@ module _ (tells : Type 0) where
       | IsCopied left mid field next whole answer last ran long taken copies ↦
           let still = reached_is_machine tells first mid (sequence_on (Allows tells) client.table.entries first client.timings (read_requests id) budget first (Ok tt) left mid Stays ran) machine in
           let next_machine = subst (λ (s : MachineState). IsMachine s) (sym long.2) still in
-          whole_length whole out (number_at field 0 4) (copies_length client.address (take (number_at field 0 4) out) whole next answer last next_machine copies) (copy_fits (number_at field 0 4) client.range (length out) taken)
+          whole_length whole out (number_at field 0 4) (copies_length client.address (take (number_at field 0 4) out) whole next answer last next_machine
+          copies) (copy_fits (number_at field 0 4) client.range (length out) taken)
     ]
 
-    read_left : (result : Result ℕ ClientError) (after : List ℕ) (left : ℕ) (last : MachineState) (error : ClientError) → Reads (Allows tells) client id out budget first result after left last → result ≡ Err error → after ≡ out
+    read_left : (result : Result ℕ ClientError) (after : List ℕ) (left : ℕ) (last : MachineState) (error : ClientError) →
+        Reads (Allows tells) client id out budget first result after left last → result ≡ Err error → after ≡ out
     read_left result after left last error reads = elim reads as (λ result after left last reads. result ≡ Err error → after ≡ out) [
       | IsNotRead error left last ran ↦ λ is. refl
       | HasNoLength left mid field fault last ran long ↦ λ is. refl
@@ -125,14 +135,16 @@ same_record (Err error) whole out others after afterwards long first second = re
 
 module _ (tells : Type 0) (told : tells) (client : ClientState) (id budget : ℕ) (one other : MachineState) (equivalent : EquivalentMachines one other) where
   read_both : (out others : List ℕ) (result also : Result ℕ ClientError) (after afterwards : List ℕ) (left also_left : ℕ) (one_after other_after : MachineState) → length out ≡ length others
-      → Reads (Allows tells) client id out budget one result after left one_after → FailedNothing one one_after → Reads (Allows tells) client id others budget other also afterwards also_left other_after → FailedNothing other other_after
+      → Reads (Allows tells) client id out budget one result after left one_after → FailedNothing one one_after → Reads (Allows tells) client id others budget
+      other also afterwards also_left other_after → FailedNothing other other_after
       → EndAlike result also left also_left one_after other_after × ((whole : List ℕ) × IfOk result (λ size. (size ≤ length out) × (after ≡ whole ++ drop size out))
       × IfOk result (λ size. (size ≤ length others) × (afterwards ≡ whole ++ drop size others)))
   read_both out others result also after afterwards left also_left one_after other_after room first quiet second also_quiet =
       let own = reads_held (Allows tells) client id out budget one result after left one_after first in
       let theirs = reads_held (Allows tells) client id others budget other also afterwards also_left other_after second in
       let held = subst (λ (n : ℕ). Held (Allows tells) (read client id n budget) other ((also, theirs.whole), also_left) other_after) (sym room) theirs.held in
-      let both = pair_alike tells told (read client id (length out) budget) one other (result, own.whole) (also, theirs.whole) left also_left one_after other_after equivalent own.held quiet held also_quiet in
+      let both = pair_alike tells told (read client id (length out) budget) one other (result, own.whole) (also, theirs.whole) left also_left one_after
+      other_after equivalent own.held quiet held also_quiet in
       let answers : result ≡ also = ap (λ (p : Copied). p.0) both.same_answer in
       let bytes : own.whole ≡ theirs.whole = ap (λ (p : Copied). p.1) both.same_answer in (
         record { same_answer = answers; same_left = both.same_left; equivalent = both.equivalent },
@@ -144,8 +156,10 @@ module _ (tells : Type 0) (told : tells) (client : ClientState) (id budget : ℕ
         ),
       )
 
-  pub record_alike : (out others : List ℕ) (result also : Result ℕ ClientError) (after afterwards : List ℕ) (left also_left : ℕ) (one_after other_after : MachineState) → IsMachine one → length out ≡ length others
-      → Reads (Allows tells) client id out budget one result after left one_after → FailedNothing one one_after → Reads (Allows tells) client id others budget other also afterwards also_left other_after → FailedNothing other other_after
+  pub record_alike : (out others : List ℕ) (result also : Result ℕ ClientError) (after afterwards : List ℕ) (left also_left : ℕ)
+      (one_after other_after : MachineState) → IsMachine one → length out ≡ length others
+      → Reads (Allows tells) client id out budget one result after left one_after → FailedNothing one one_after → Reads (Allows tells) client id others budget
+      other also afterwards also_left other_after → FailedNothing other other_after
       → EndAlike result also left also_left one_after other_after × (record_in result after ≡ record_in also afterwards)
   record_alike out others result also after afterwards left also_left one_after other_after machine room first quiet second also_quiet =
       let both = read_both out others result also after afterwards left also_left one_after other_after room first quiet second also_quiet in (
@@ -155,7 +169,8 @@ module _ (tells : Type 0) (told : tells) (client : ClientState) (id budget : ℕ
       )
 
   pub buffer_alike : (out : List ℕ) (result also : Result ℕ ClientError) (after afterwards : List ℕ) (left also_left : ℕ) (one_after other_after : MachineState)
-      → Reads (Allows tells) client id out budget one result after left one_after → FailedNothing one one_after → Reads (Allows tells) client id out budget other also afterwards also_left other_after → FailedNothing other other_after
+      → Reads (Allows tells) client id out budget one result after left one_after → FailedNothing one one_after → Reads (Allows tells) client id out budget
+      other also afterwards also_left other_after → FailedNothing other other_after
       → after ≡ afterwards
   buffer_alike out result also after afterwards left also_left one_after other_after first quiet second also_quiet =
       let both = read_both out out result also after afterwards left also_left one_after other_after refl first quiet second also_quiet in

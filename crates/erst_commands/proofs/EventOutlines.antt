@@ -24,7 +24,8 @@ use Rattle.erst_machine.specs.Memories.{MemoryState, cleared}
 use Rattle.erst_machine.specs.MachineState.{MachineState, IsMachine, records_of}
 use Rattle.erst_machine.specs.Boots.{IsBooted}
 use Rattle.erst_machine.specs.Events.{Restarts, Warms, Powers, Submits, Turns, LaysFatal, Event, Accessed, Warmed, Powered, Submitted, Turned, Laid, Happens}
-use Rattle.erst_commands.specs.Equivalence.{StoreOutline, DeviceOutline, MachineOutline, unplaced, store_outline, device_outline, machine_outline, EquivalentMachines, FailsNothing, FailedNothing, asked_event, answered_event}
+use Rattle.erst_commands.specs.Equivalence.{StoreOutline, DeviceOutline, MachineOutline, unplaced, store_outline, device_outline, machine_outline}
+use Rattle.erst_commands.specs.Equivalence.{EquivalentMachines, FailsNothing, FailedNothing, asked_event, answered_event}
 use Rattle.erst_commands.proofs.StoreOutlines.{looked, same_outline, only_looked, no_copies}
 use Rattle.erst_commands.proofs.MachineOutlines.{same_machine, answer_alike}
 use Rattle.ghes_ack.specs.Submissions.{refusal_of}
@@ -43,7 +44,8 @@ copies_doubted false (Writing id bytes slots replaces made) copies layout knows 
 copies_doubted false (Clearing id) copies layout knows = knows refl
 
 doubted_outline : (store : StoreView) → KnowsCopies store → store_outline (doubted store) ≡ doubting (store_outline store)
-doubted_outline store knows = same_outline (store_outline (doubted store)) (doubting (store_outline store)) refl refl refl refl refl (copies_doubted store.in_doubt store.pending (copies_in store) store.layout knows)
+doubted_outline store knows = same_outline (store_outline (doubted store)) (doubting (store_outline store)) refl refl refl refl refl
+    (copies_doubted store.in_doubt store.pending (copies_in store) store.layout knows)
 
 abbrev first_device : StoreOutline → DeviceOutline
 first_device store = record { value = 0; operation = None; offset = 0; id = 0; status = Success; cursor = 0; reading = None; store = store }
@@ -55,19 +57,22 @@ record Began (memory : MemoryState) (old : MachineOutline) (result : Result ℕ 
   answer : result ≡ Ok (len old.device.store.records)
   outline : new ≡ begun memory old
 
-began : (tells : Type 0) → tells → (before : StoreView) (memory : MemoryState) (old : MachineState) (result : Result ℕ BootError) (new : MachineState) → store_outline before ≡ doubting (store_outline old.device.store)
+began : (tells : Type 0) → tells → (before : StoreView) (memory : MemoryState) (old : MachineState) (result : Result ℕ BootError) (new : MachineState) →
+    store_outline before ≡ doubting (store_outline old.device.store)
     → FailsNothing before new.device.store → Restarts tells before memory old result new → Began memory (machine_outline old) result (machine_outline new)
 began tells told before memory old (Ok n) new before_is quiet restarts =
     let store : store_outline new.device.store ≡ looked (doubting (store_outline old.device.store)) =
     only_looked {T = ℕ} tells told before new.device.store (Ok n) quiet restarts.leaves ∙ ap looked before_is in
     record {
       answer = ap (λ (k : ℕ). Ok k) (restarts.count told ∙ ap (λ (s : StoreOutline). len s.records) store);
-      outline = same_machine (machine_outline new) (begun memory (machine_outline old)) (ap device_outline restarts.registers ∙ ap first_device store) restarts.memory_is restarts.handover restarts.waited;
+      outline = same_machine (machine_outline new) (begun memory (machine_outline old)) (ap device_outline restarts.registers ∙ ap first_device store)
+          restarts.memory_is restarts.handover restarts.waited;
     }
 began tells told before memory old (Err error) new before_is quiet restarts = absurd (quiet restarts.leaves.cause.1)
 
 -- two restarts
-begin_alike : (memory : MachineOutline → MemoryState) (one other : MachineOutline) (result also : Result ℕ BootError) (one_after other_after : MachineOutline) → one ≡ other → Began (memory one) one result one_after
+begin_alike : (memory : MachineOutline → MemoryState) (one other : MachineOutline) (result also : Result ℕ BootError) (one_after other_after : MachineOutline) →
+    one ≡ other → Began (memory one) one result one_after
     → Began (memory other) other also other_after → (result ≡ also) × (one_after ≡ other_after)
 begin_alike memory one other result also one_after other_after equivalent first second = (
   first.answer ∙ ap (λ (o : MachineOutline). Ok (len o.device.store.records)) equivalent ∙ sym second.answer,
@@ -107,10 +112,12 @@ stands_once g h ram mem m at first second =
     same_state g h at (sym first.situation ∙ second.situation) both.1 both.0 (first.filled ∙ sym second.filled) (first.copied ∙ sym second.copied) (first.last ∙ sym second.last)
 
 module _ (one other : MachineState) (equivalent : EquivalentMachines one other) where
-  pub submits_alike : (block : List ℕ) (result also : Result ℕ SubmitError) (one_after other_after : MachineState) → Submits one block result one_after → Submits other block also other_after → (result ≡ also) × EquivalentMachines one_after other_after
+  pub submits_alike : (block : List ℕ) (result also : Result ℕ SubmitError) (one_after other_after : MachineState) → Submits one block result one_after →
+      Submits other block also other_after → (result ≡ also) × EquivalentMachines one_after other_after
   submits_alike block (Ok n) (Ok k) one_after other_after first second =
       let after : EquivalentMachines one_after other_after =
-      ap machine_outline first.added ∙ ap (λ (o : MachineOutline). record o { handover = record o.handover { waiting = o.handover.waiting ++ block ∷ [] } }) equivalent ∙ sym (ap machine_outline second.added) in
+      ap machine_outline first.added ∙ ap (λ (o : MachineOutline). record o { handover = record o.handover { waiting = o.handover.waiting ++ block ∷ [] } })
+      equivalent ∙ sym (ap machine_outline second.added) in
       (ap (λ (i : ℕ). Ok i) (first.number ∙ ap (λ (o : MachineOutline). length o.handover.waiting) after ∙ sym second.number), after)
   submits_alike block (Ok n) (Err error) one_after other_after first second =
       absurd (none-some error (sym first.exact ∙ ap (λ (o : MachineOutline). refusal_of o.handover.map.len block (length o.handover.waiting)) equivalent ∙ second.exact))
@@ -127,7 +134,8 @@ module _ (one other : MachineState) (equivalent : EquivalentMachines one other) 
   same_shared : one.memory.shared ≡ other.memory.shared
   same_shared = ap (λ (o : MachineOutline). o.memory.shared) equivalent
 
-  pub turns_alike : (side : Side) (event also : TurnEvent) (one_after other_after : MachineState) → Turns side one event one_after → Turns side other also other_after → (event ≡ also) × EquivalentMachines one_after other_after
+  pub turns_alike : (side : Side) (event also : TurnEvent) (one_after other_after : MachineState) → Turns side one event one_after →
+      Turns side other also other_after → (event ≡ also) × EquivalentMachines one_after other_after
   turns_alike side event also one_after other_after first second =
       let m = first.stood.0 in
       let stands = first.stood.1 in
@@ -153,14 +161,16 @@ module _ (one other : MachineState) (equivalent : EquivalentMachines one other) 
             (first.waited ∙ ap (λ (o : MachineOutline). o.waited) equivalent ∙ sym second.waited),
       )
 
-  pub lays_alike : IsMachine one → (block : List ℕ) (result also : Result ℕ FatalError) (one_after other_after : MachineState) → LaysFatal one block result one_after → LaysFatal other block also other_after → (result ≡ also) × EquivalentMachines one_after other_after
+  pub lays_alike : IsMachine one → (block : List ℕ) (result also : Result ℕ FatalError) (one_after other_after : MachineState) →
+      LaysFatal one block result one_after → LaysFatal other block also other_after → (result ≡ also) × EquivalentMachines one_after other_after
   lays_alike machine block result also one_after other_after first second =
       let blocks : List (List ℕ) = machine.laid.0 in
       let left : ℕ = machine.laid.1 in
       let laid : IsLaidOut blocks left one.memory.region = machine.laid.2 in
       by_result blocks left laid (subst (λ (r : List ℕ). IsLaidOut blocks left r) (ap (λ (o : MachineOutline). o.memory.region) equivalent) laid) result also first second
     where
-      by_result : (blocks : List (List ℕ)) (left : ℕ) → IsLaidOut blocks left one.memory.region → IsLaidOut blocks left other.memory.region → (result also : Result ℕ FatalError) → LaysFatal one block result one_after
+      by_result : (blocks : List (List ℕ)) (left : ℕ) → IsLaidOut blocks left one.memory.region → IsLaidOut blocks left other.memory.region →
+          (result also : Result ℕ FatalError) → LaysFatal one block result one_after
           → LaysFatal other block also other_after → (result ≡ also) × EquivalentMachines one_after other_after
       by_result blocks left laid laid_too (Ok at) (Ok place) first second =
           let own = first.laid blocks left laid in
@@ -180,21 +190,24 @@ module _ (one other : MachineState) (equivalent : EquivalentMachines one other) 
       )
 
   module _ (tells : Type 0) (told : tells) where
-    warms_alike : (result also : Result ℕ BootError) (one_after other_after : MachineState) → Warms tells one result one_after → FailedNothing one one_after → Warms tells other also other_after → FailedNothing other other_after
+    warms_alike : (result also : Result ℕ BootError) (one_after other_after : MachineState) → Warms tells one result one_after → FailedNothing one one_after →
+        Warms tells other also other_after → FailedNothing other other_after
         → (result ≡ also) × EquivalentMachines one_after other_after
     warms_alike result also one_after other_after first quiet second also_quiet =
         begin_alike warm_memory (machine_outline one) (machine_outline other) result also (machine_outline one_after) (machine_outline other_after) equivalent
         (began tells told (doubted one.device.store) _ one result one_after (doubted_outline one.device.store (first.copies told)) quiet first)
         (began tells told (doubted other.device.store) _ other also other_after (doubted_outline other.device.store (second.copies told)) also_quiet second)
 
-    powers_alike : (result also : Result ℕ BootError) (one_after other_after : MachineState) → Powers tells one result one_after → FailedNothing one one_after → Powers tells other also other_after → FailedNothing other other_after
+    powers_alike : (result also : Result ℕ BootError) (one_after other_after : MachineState) → Powers tells one result one_after → FailedNothing one one_after →
+        Powers tells other also other_after → FailedNothing other other_after
         → (result ≡ also) × EquivalentMachines one_after other_after
     powers_alike result also one_after other_after first quiet second also_quiet =
         begin_alike cold_memory (machine_outline one) (machine_outline other) result also (machine_outline one_after) (machine_outline other_after) equivalent
         (began tells told (restarted one.device.store) _ one result one_after (doubted_outline one.device.store (first.restarts.copies told)) quiet first.restarts)
         (began tells told (restarted other.device.store) _ other also other_after (doubted_outline other.device.store (second.restarts.copies told)) also_quiet second.restarts)
 
-    pub happens_alike : IsMachine one → (event also : Event) (one_after other_after : MachineState) → asked_event event ≡ asked_event also → Happens tells one event one_after → FailedNothing one one_after
+    pub happens_alike : IsMachine one → (event also : Event) (one_after other_after : MachineState) → asked_event event ≡ asked_event also →
+        Happens tells one event one_after → FailedNothing one one_after
         → Happens tells other also other_after → FailedNothing other other_after → (answered_event event ≡ answered_event also) × EquivalentMachines one_after other_after
     happens_alike machine (Accessed call) (Accessed others) one_after other_after asks first quiet second also_quiet =
         let both = answer_alike tells told one other equivalent call others one_after other_after (cc) first quiet second also_quiet in
@@ -221,7 +234,8 @@ module _ (one other : MachineState) (equivalent : EquivalentMachines one other) 
 
 -- A boot
 
-pub boots_alike : (geometry : Geometry) (one other : MachineState) → IsBooted geometry one → IsBooted geometry other → records_of one ≡ records_of other → one.device.store.flash.steps ≡ other.device.store.flash.steps → EquivalentMachines one other
+pub boots_alike : (geometry : Geometry) (one other : MachineState) → IsBooted geometry one → IsBooted geometry other → records_of one ≡ records_of other →
+    one.device.store.flash.steps ≡ other.device.store.flash.steps → EquivalentMachines one other
 boots_alike geometry one other first second records steps =
     let store : store_outline one.device.store ≡ store_outline other.device.store =
     same_outline (store_outline one.device.store) (store_outline other.device.store)

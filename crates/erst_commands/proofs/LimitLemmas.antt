@@ -80,7 +80,8 @@ changes-most layout size fits =
     by_parts n m fewer =
         let longer = pieces-longer (room_of layout) size (reach_of (room_of layout)) n fits in
         let further = pieces-further (room_of layout) (reach_of (room_of layout)) n (m - n) in
-        let whole : pieces_of_parts (room_of layout) (reach_of (room_of layout)) (m - n + n) ≡ pieces_of_parts (room_of layout) (reach_of (room_of layout)) m = ap (pieces_of_parts (room_of layout) (reach_of (room_of layout))) (omega arith) in
+        let whole : pieces_of_parts (room_of layout) (reach_of (room_of layout)) (m - n + n) ≡ pieces_of_parts (room_of layout) (reach_of (room_of layout)) m =
+        ap (pieces_of_parts (room_of layout) (reach_of (room_of layout))) (omega arith) in
         let slots = mul-le-mul_left (layout.per_slot + 2) fewer in
         let one = mul_comm (layout.per_slot + 2) n in
         let other = mul_comm (layout.per_slot + 2) m in

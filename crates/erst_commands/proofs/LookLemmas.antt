@@ -41,7 +41,8 @@ use Rattle.erst_client.proofs.Terms.{counted as count_answer, named as next_answ
 equivalent_from : (old new : StoreView) → DividesAlike (abandoned old) new → DividesAlike old new
 equivalent_from old new equivalent = record { layout = equivalent.layout; size = equivalent.size; sector_size = equivalent.sector_size }
 
-pub only_looked : {T : Type 0} (tells : Type 0) (told : tells) (first last : MachineState) (store : StoreView) (result : Result T StoreError) → OnlyLooks tells (abandoned first.device.store) store result
+pub only_looked : {T : Type 0} (tells : Type 0) (told : tells) (first last : MachineState) (store : StoreView) (result : Result T StoreError) →
+    OnlyLooks tells (abandoned first.device.store) store result
     → last.device.store ≡ store → last ≡ record first { device = last.device } → OnlyLooked first last
 only_looked tells told first last store result leaves there elsewhere = subst (λ (s : StoreView). OnlyLooked first (record last { device = record last.device { store = s } })) (sym there)
     (record {
@@ -64,7 +65,8 @@ has_asked {T = T} tells told first last store answer leaves there elsewhere =
       faults = ap (λ (s : StoreView). s.flash.faults) there ∙ leaves.cause;
     }
 
-pub has_failed : {T : Type 0} (tells : Type 0) (told : tells) (first last : MachineState) (store : StoreView) (error : StoreError) → OnlyLooks {T = T} tells (abandoned first.device.store) store (Err error)
+pub has_failed : {T : Type 0} (tells : Type 0) (told : tells) (first last : MachineState) (store : StoreView) (error : StoreError) →
+    OnlyLooks {T = T} tells (abandoned first.device.store) store (Err error)
     → error ≡ errors.Flash → last.device.store ≡ store → last ≡ record first { device = last.device } → last.device.cursor ≡ first.device.cursor → HasFailed first last
 has_failed {T = T} tells told first last store error leaves flash there elsewhere cursor =
     let cause = subst (λ (e : StoreError). HasFaultsOf {T = T} first.device.store.flash.faults store.flash.faults (Err e)) flash leaves.cause in
@@ -78,7 +80,8 @@ has_failed {T = T} tells told first last store error leaves flash there elsewher
 
 module _ {T : Type 0} (tells : Type 0) (own : OwnProgramsRun tells) (budget : ℕ) (first : MachineState) (action : Action) (judges : Result ℕ RunStop → Result T ClientError)
     (Made : MachineState → Result T ClientError → Type 0) (given : given_to action 0 first ≡ first) (takes : takes_value action ≡ false) (two : steps_of own_entries action ≡ 2)
-    (stops : judges (Err Budget) ≡ Err (Stopped Budget)) (made : (last : MachineState) → ActsOn tells first (code_of action) last → Made last (judges (Ok (answer_of action 0 last.device.value)))) where
+    (stops : judges (Err Budget) ≡ Err (Stopped Budget)) (made : (last : MachineState) → ActsOn tells first (code_of action) last →
+    Made last (judges (Ok (answer_of action 0 last.device.value)))) where
   has_stopped : (last : MachineState) → AsksOnce (Made last) budget first last (Err (Stopped Budget)) 0 → AsksOnce (Made last) budget first last (judges (Err Budget)) 0
   has_stopped last = subst (λ (r : Result T ClientError). AsksOnce (Made last) budget first last r 0) (sym stops)
 

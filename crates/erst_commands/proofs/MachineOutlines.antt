@@ -42,7 +42,8 @@ pub record BothDo {A : Type 0} (one_answer other_answer : A) (one_after other_af
 become_alike : (one_after other_after x y : MachineState) → one_after ≡ x → other_after ≡ y → EquivalentMachines x y → EquivalentMachines one_after other_after
 become_alike one_after other_after x y first second equivalent = ap machine_outline first ∙ equivalent ∙ sym (ap machine_outline second)
 
-both : {A : Type 0} (one_answer other_answer : A) (one_after other_after : MachineState) (a b : A) (x y : MachineState) → one_answer ≡ a → other_answer ≡ b → one_after ≡ x → other_after ≡ y → a ≡ b → EquivalentMachines x y
+both : {A : Type 0} (one_answer other_answer : A) (one_after other_after : MachineState) (a b : A) (x y : MachineState) → one_answer ≡ a → other_answer ≡ b →
+    one_after ≡ x → other_after ≡ y → a ≡ b → EquivalentMachines x y
     → BothDo one_answer other_answer one_after other_after
 both one_answer other_answer one_after other_after a b x y one_is other_is one_state other_state answers equivalent = record {
   answer = one_is ∙ answers ∙ sym other_is;
@@ -54,15 +55,18 @@ module _ (tells : Type 0) (told : tells) (one other : MachineState) (equivalent 
   same_range = ap (λ (o : MachineOutline). o.memory.range) equivalent
 
   -- a code in ACTION
-  acts_alike : (code : ℕ) (one_after other_after : MachineState) → ActsOn tells one code one_after → FailedNothing one one_after → ActsOn tells other code other_after → FailedNothing other other_after → EquivalentMachines one_after other_after
+  acts_alike : (code : ℕ) (one_after other_after : MachineState) → ActsOn tells one code one_after → FailedNothing one one_after →
+      ActsOn tells other code other_after → FailedNothing other other_after → EquivalentMachines one_after other_after
   acts_alike code one_after other_after first quiet second also_quiet =
       let own = became tells told one.device one.memory.range (action_of code) one_after.device one_after.memory.range first.acts (first.copies told) quiet in
       let others = became tells told other.device other.memory.range (action_of code) other_after.device other_after.memory.range second.acts (second.copies told) also_quiet in
       let moved = subst (λ (r : List ℕ). Became (action_of code) (device_outline other.device) r (device_outline other_after.device) other_after.memory.range) (sym same_range) others in
-      let both_are = became_alike (action_of code) (device_outline one.device) (device_outline other.device) one.memory.range (device_outline one_after.device) one_after.memory.range (device_outline other_after.device) other_after.memory.range
+      let both_are = became_alike (action_of code) (device_outline one.device) (device_outline other.device) one.memory.range (device_outline one_after.device)
+      one_after.memory.range (device_outline other_after.device) other_after.memory.range
       (ap (λ (o : MachineOutline). o.device) equivalent) own moved in
       same_machine (machine_outline one_after) (machine_outline other_after) both_are.0
-      (first.memory ∙ ap (λ (o : MachineOutline). record o.memory { range = one_after.memory.range }) equivalent ∙ ap (λ (r : List ℕ). record other.memory { range = r }) both_are.1 ∙ sym second.memory)
+      (first.memory ∙ ap (λ (o : MachineOutline). record o.memory { range = one_after.memory.range }) equivalent
+      ∙ ap (λ (r : List ℕ). record other.memory { range = r }) both_are.1 ∙ sym second.memory)
       (first.handover ∙ ap (λ (o : MachineOutline). o.handover) equivalent ∙ sym second.handover)
       (first.waited ∙ ap (λ (o : MachineOutline). o.waited) equivalent ∙ sym second.waited)
 
@@ -88,13 +92,16 @@ module _ (tells : Type 0) (told : tells) (one other : MachineState) (equivalent 
   number_alike (Beyond area address) at width = refl
   number_alike (Nowhere address) at width = refl
 
-  part_alike : (area : Area) (start : ℕ) (before buffer : List ℕ) → length before ≡ length buffer → part (bytes_in area one.memory) start (length before) ≡ part (bytes_in area other.memory) start (length buffer)
+  part_alike : (area : Area) (start : ℕ) (before buffer : List ℕ) → length before ≡ length buffer → part (bytes_in area one.memory) start (length before)
+      ≡ part (bytes_in area other.memory) start (length buffer)
   part_alike area start before buffer long =
       ap (λ (o : MachineOutline). part (bytes_in area o.memory) start (length before)) equivalent ∙ ap (λ (n : ℕ). part (bytes_in area other.memory) start n) long
 
   -- what a read of bytes answers, and what it shows
-  filled_alike : (area : Area) (start at : ℕ) (before buffer : List ℕ) → length before ≡ length buffer → ((bytes_read (Inside area start) one at before).0 ≡ (bytes_read (Inside area start) other at buffer).0)
-      × (bytes_shown (bytes_read (Inside area start) one at before).0 (bytes_read (Inside area start) one at before).1 ≡ bytes_shown (bytes_read (Inside area start) other at buffer).0 (bytes_read (Inside area start) other at buffer).1)
+  filled_alike : (area : Area) (start at : ℕ) (before buffer : List ℕ) → length before ≡ length buffer →
+      ((bytes_read (Inside area start) one at before).0 ≡ (bytes_read (Inside area start) other at buffer).0)
+      × (bytes_shown (bytes_read (Inside area start) one at before).0 (bytes_read (Inside area start) one at before).1 ≡ bytes_shown
+      (bytes_read (Inside area start) other at buffer).0 (bytes_read (Inside area start) other at buffer).1)
   filled_alike Device start at before buffer long = (refl, refl)
   filled_alike Scratch start at before buffer long = (refl, part_alike Scratch start before buffer long)
   filled_alike LogRange start at before buffer long = (refl, part_alike LogRange start before buffer long)
@@ -110,7 +117,8 @@ module _ (tells : Type 0) (told : tells) (one other : MachineState) (equivalent 
 
   -- writes of bytes, and copies
   area_stored_alike : (area : Area) (start at : ℕ) (bytes : List ℕ) →
-      BothDo (bytes_stored (Inside area start) one at bytes).0 (bytes_stored (Inside area start) other at bytes).0 (bytes_stored (Inside area start) one at bytes).1 (bytes_stored (Inside area start) other at bytes).1
+      BothDo (bytes_stored (Inside area start) one at bytes).0 (bytes_stored (Inside area start) other at bytes).0
+      (bytes_stored (Inside area start) one at bytes).1 (bytes_stored (Inside area start) other at bytes).1
   area_stored_alike Device start at bytes = record { answer = refl; equivalent = equivalent }
   area_stored_alike Handover start at bytes = record { answer = refl; equivalent = equivalent }
   area_stored_alike BootErrors start at bytes = record { answer = refl; equivalent = equivalent }
@@ -118,7 +126,8 @@ module _ (tells : Type 0) (told : tells) (one other : MachineState) (equivalent 
   area_stored_alike LogRange start at bytes = record { answer = refl; equivalent = put_alike LogRange start bytes }
   area_stored_alike Ports start at bytes = record { answer = refl; equivalent = put_alike Ports start bytes }
 
-  stored_alike : (location : Location) (at : ℕ) (bytes : List ℕ) → BothDo (bytes_stored location one at bytes).0 (bytes_stored location other at bytes).0 (bytes_stored location one at bytes).1 (bytes_stored location other at bytes).1
+  stored_alike : (location : Location) (at : ℕ) (bytes : List ℕ) → BothDo (bytes_stored location one at bytes).0 (bytes_stored location other at bytes).0
+      (bytes_stored location one at bytes).1 (bytes_stored location other at bytes).1
   stored_alike (Inside area start) at bytes = area_stored_alike area start at bytes
   stored_alike (Beyond area address) at bytes = record { answer = refl; equivalent = equivalent }
   stored_alike (Nowhere address) at bytes = record { answer = refl; equivalent = equivalent }
@@ -140,8 +149,10 @@ module _ (tells : Type 0) (told : tells) (one other : MachineState) (equivalent 
   copied_alike None None source target n = record { answer = refl; equivalent = to_alike target _ _ (from_alike source n) }
 
   -- writes of a number
-  module _ (at : ℕ) (width : Width) (value : ℕ) (x y : Result (Unit {0}) SpaceFault) (one_after other_after : MachineState) (quiet : FailedNothing one one_after) (also_quiet : FailedNothing other other_after) where
-    written_register : (register : Register) → RegisterWritten tells register one (write_of at width value x) one_after → RegisterWritten tells register other (write_of at width value y) other_after → BothDo x y one_after other_after
+  module _ (at : ℕ) (width : Width) (value : ℕ) (x y : Result (Unit {0}) SpaceFault) (one_after other_after : MachineState)
+      (quiet : FailedNothing one one_after) (also_quiet : FailedNothing other other_after) where
+    written_register : (register : Register) → RegisterWritten tells register one (write_of at width value x) one_after → RegisterWritten tells register other
+        (write_of at width value y) other_after → BothDo x y one_after other_after
     written_register Action first second = record { answer = first.0 ∙ sym second.0; equivalent = acts_alike (value % 2 ^ 32) one_after other_after first.1 quiet second.1 also_quiet }
     written_register Value first second = record {
       answer = first.0 ∙ sym second.0;
@@ -150,11 +161,17 @@ module _ (tells : Type 0) (told : tells) (one other : MachineState) (equivalent 
     }
     written_register NoRegister first second = record { answer = first.0 ∙ sym second.0; equivalent = become_alike one_after other_after one other first.1 second.1 equivalent }
 
-    written_put : (area : Area) (start : ℕ) → (x ≡ Ok tt) × (one_after ≡ put_in area start one (spelled (bits width / 8) value)) → (y ≡ Ok tt) × (other_after ≡ put_in area start other (spelled (bits width / 8) value))
+    written_put : (area : Area) (start : ℕ) → (x ≡ Ok tt) × (one_after ≡ put_in area start one (spelled (bits width / 8) value)) →
+        (y ≡ Ok tt) × (other_after ≡ put_in area start other (spelled (bits width / 8) value))
         → BothDo x y one_after other_after
-    written_put area start first second = record { answer = first.0 ∙ sym second.0; equivalent = become_alike one_after other_after _ _ first.1 second.1 (put_alike area start (spelled (bits width / 8) value)) }
+    written_put area start first second = record {
+      answer = first.0 ∙ sym second.0;
+      equivalent = become_alike one_after other_after _ _ first.1 second.1
+          (put_alike area start (spelled (bits width / 8) value));
+    }
 
-    written_area : (area : Area) (start : ℕ) → NumberWritten tells (Inside area start) one (write_of at width value x) one_after → NumberWritten tells (Inside area start) other (write_of at width value y) other_after → BothDo x y one_after other_after
+    written_area : (area : Area) (start : ℕ) → NumberWritten tells (Inside area start) one (write_of at width value x) one_after →
+        NumberWritten tells (Inside area start) other (write_of at width value y) other_after → BothDo x y one_after other_after
     written_area Device start first second = written_register (register_at start width) first second
     written_area Handover start first second = record { answer = first.0 ∙ sym second.0; equivalent = become_alike one_after other_after one other first.1 second.1 equivalent }
     written_area BootErrors start first second = record { answer = first.0 ∙ sym second.0; equivalent = become_alike one_after other_after one other first.1 second.1 equivalent }
@@ -162,7 +179,8 @@ module _ (tells : Type 0) (told : tells) (one other : MachineState) (equivalent 
     written_area LogRange start first second = written_put LogRange start first second
     written_area Ports start first second = written_put Ports start first second
 
-    written_alike : (location : Location) → NumberWritten tells location one (write_of at width value x) one_after → NumberWritten tells location other (write_of at width value y) other_after → BothDo x y one_after other_after
+    written_alike : (location : Location) → NumberWritten tells location one (write_of at width value x) one_after →
+        NumberWritten tells location other (write_of at width value y) other_after → BothDo x y one_after other_after
     written_alike (Inside area start) first second = written_area area start first second
     written_alike (Beyond area address) first second = record { answer = first.0 ∙ sym second.0; equivalent = become_alike one_after other_after one other first.1 second.1 equivalent }
     written_alike (Nowhere address) first second = record { answer = first.0 ∙ sym second.0; equivalent = become_alike one_after other_after one other first.1 second.1 equivalent }
@@ -171,13 +189,15 @@ module _ (tells : Type 0) (told : tells) (one other : MachineState) (equivalent 
   same_location at n = ap (λ (o : MachineOutline). place_location (length o.memory.range) at n) (sym equivalent)
 
   -- calls that ask the same
-  read_both : (at : Place) (width : Width) (x y : Result ℕ SpaceFault) (one_after other_after : MachineState) → Allows tells one (Read at width x) one_after → Allows tells other (Read at width y) other_after → BothDo x y one_after other_after
+  read_both : (at : Place) (width : Width) (x y : Result ℕ SpaceFault) (one_after other_after : MachineState) → Allows tells one (Read at width x) one_after →
+      Allows tells other (Read at width y) other_after → BothDo x y one_after other_after
   read_both at width x y one_after other_after first second =
       let location : Location = location_of one at (bits width / 8) in
       both x y one_after other_after _ _ one other first.0 (second.0 ∙ ap (λ (s : Location). number_read s other (address_of at) width) (same_location at (bits width / 8))) first.1 second.1
       (number_alike location (address_of at) width) equivalent
 
-  write_both : (at : Place) (width : Width) (value : ℕ) (x y : Result (Unit {0}) SpaceFault) (one_after other_after : MachineState) → Allows tells one (Write at width value x) one_after → FailedNothing one one_after
+  write_both : (at : Place) (width : Width) (value : ℕ) (x y : Result (Unit {0}) SpaceFault) (one_after other_after : MachineState) →
+      Allows tells one (Write at width value x) one_after → FailedNothing one one_after
       → Allows tells other (Write at width value y) other_after → FailedNothing other other_after → BothDo x y one_after other_after
   write_both at width value x y one_after other_after first quiet second also_quiet =
       written_alike (address_of at) width value x y one_after other_after quiet also_quiet (location_of one at (bits width / 8)) first
@@ -187,15 +207,20 @@ module _ (tells : Type 0) (told : tells) (one other : MachineState) (equivalent 
   wait_both micros one_after other_after first second =
       become_alike one_after other_after _ _ first second (ap (λ (o : MachineOutline). record o { waited = min (o.waited + micros) (2 ^ 64 - 1) }) equivalent)
 
-  copy_both : (from target n : ℕ) (x y : Result (Unit {0}) SpaceFault) (one_after other_after : MachineState) → Allows tells one (Copy from target n x) one_after → Allows tells other (Copy from target n y) other_after → BothDo x y one_after other_after
+  copy_both : (from target n : ℕ) (x y : Result (Unit {0}) SpaceFault) (one_after other_after : MachineState) → Allows tells one (Copy from target n x)
+      one_after → Allows tells other (Copy from target n y) other_after → BothDo x y one_after other_after
   copy_both from target n x y one_after other_after first second =
-      let own = copied_alike (copy_fault (location_of one (Memory from) n) from) (copy_fault (location_of one (Memory target) n) target) (location_of one (Memory from) n) (location_of one (Memory target) n) n in
-      let moved : copy_of (location_of other (Memory from) n) (location_of other (Memory target) n) other from target n ≡ copy_of (location_of one (Memory from) n) (location_of one (Memory target) n) other from target n =
+      let own = copied_alike (copy_fault (location_of one (Memory from) n) from) (copy_fault (location_of one (Memory target) n) target)
+      (location_of one (Memory from) n) (location_of one (Memory target) n) n in
+      let moved : copy_of (location_of other (Memory from) n) (location_of other (Memory target) n) other from target n
+      ≡ copy_of (location_of one (Memory from) n) (location_of one (Memory target) n) other from target n =
       ap (λ (o : MachineOutline). copy_of (place_location (length o.memory.range) (Memory from) n) (place_location (length o.memory.range) (Memory target) n) other from target n) (sym equivalent) in
-      both x y one_after other_after _ _ _ _ first.0 (second.0 ∙ ap (λ (p : Result (Unit {0}) SpaceFault × MachineState). p.0) moved) first.1 (second.1 ∙ ap (λ (p : Result (Unit {0}) SpaceFault × MachineState). p.1) moved)
+      both x y one_after other_after _ _ _ _ first.0 (second.0 ∙ ap (λ (p : Result (Unit {0}) SpaceFault × MachineState). p.0) moved) first.1
+      (second.1 ∙ ap (λ (p : Result (Unit {0}) SpaceFault × MachineState). p.1) moved)
       own.answer own.equivalent
 
-  pub fill_both : (at : ℕ) (before buffer after afterwards : List ℕ) (x y : Result (Unit {0}) SpaceFault) (one_after other_after : MachineState) → length before ≡ length buffer → Allows tells one (ReadBytes at before after x) one_after
+  pub fill_both : (at : ℕ) (before buffer after afterwards : List ℕ) (x y : Result (Unit {0}) SpaceFault) (one_after other_after : MachineState) →
+      length before ≡ length buffer → Allows tells one (ReadBytes at before after x) one_after
       → Allows tells other (ReadBytes at buffer afterwards y) other_after → (x ≡ y) × (bytes_shown x after ≡ bytes_shown y afterwards) × EquivalentMachines one_after other_after
   fill_both at before buffer after afterwards x y one_after other_after long first second =
       let location : Location = location_of one (Memory at) (length before) in
@@ -210,16 +235,19 @@ module _ (tells : Type 0) (told : tells) (one other : MachineState) (equivalent 
         become_alike one_after other_after one other first.2 second.2 equivalent,
       )
 
-  put_both : (at : ℕ) (bytes : List ℕ) (x y : Result (Unit {0}) SpaceFault) (one_after other_after : MachineState) → Allows tells one (WriteBytes at bytes x) one_after → Allows tells other (WriteBytes at bytes y) other_after → BothDo x y one_after other_after
+  put_both : (at : ℕ) (bytes : List ℕ) (x y : Result (Unit {0}) SpaceFault) (one_after other_after : MachineState) → Allows tells one (WriteBytes at bytes x)
+      one_after → Allows tells other (WriteBytes at bytes y) other_after → BothDo x y one_after other_after
   put_both at bytes x y one_after other_after first second =
       let location : Location = location_of one (Memory at) (length bytes) in
       let own = stored_alike location at bytes in
       let moved : bytes_stored (location_of other (Memory at) (length bytes)) other at bytes ≡ bytes_stored location other at bytes =
       ap (λ (s : Location). bytes_stored s other at bytes) (same_location (Memory at) (length bytes)) in
-      both x y one_after other_after _ _ _ _ first.0 (second.0 ∙ ap (λ (p : Result (Unit {0}) SpaceFault × MachineState). p.0) moved) first.1 (second.1 ∙ ap (λ (p : Result (Unit {0}) SpaceFault × MachineState). p.1) moved)
+      both x y one_after other_after _ _ _ _ first.0 (second.0 ∙ ap (λ (p : Result (Unit {0}) SpaceFault × MachineState). p.0) moved) first.1
+      (second.1 ∙ ap (λ (p : Result (Unit {0}) SpaceFault × MachineState). p.1) moved)
       own.answer own.equivalent
 
-  pub answer_alike : (call also : Call) (one_after other_after : MachineState) → AskAlike call also → Allows tells one call one_after → FailedNothing one one_after → Allows tells other also other_after → FailedNothing other other_after
+  pub answer_alike : (call also : Call) (one_after other_after : MachineState) → AskAlike call also → Allows tells one call one_after →
+      FailedNothing one one_after → Allows tells other also other_after → FailedNothing other other_after
       → (answered call ≡ answered also) × EquivalentMachines one_after other_after
   answer_alike (Read at width x) (Read place wide y) one_after other_after asks first quiet second also_quiet =
       let same : Read place wide y ≡ Read at width y = cc in

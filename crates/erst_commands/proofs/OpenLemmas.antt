@@ -1,7 +1,8 @@
 -- The requests that start an operation, up to EXECUTE_OPERATION.
 use Rattle.std.proofs.Common.{◌≡◌, ℕ, ◌+◌, ◌^◌, ◌<◌, List, [], ◌∷◌, Result, refl}
 use Rattle.erst_entries.specs.declared.actions.Action.{Action}
-use Rattle.erst_entries.specs.declared.actions.Action.TheVariants.{BeginWriteOperation, BeginReadOperation, BeginClearOperation, BeginDummyWriteOperation, SetRecordOffset, SetRecordIdentifier, ExecuteOperation}
+use Rattle.erst_entries.specs.declared.actions.Action.TheVariants.{BeginWriteOperation, BeginReadOperation, BeginClearOperation, BeginDummyWriteOperation}
+use Rattle.erst_entries.specs.declared.actions.Action.TheVariants.{SetRecordOffset, SetRecordIdentifier, ExecuteOperation}
 use Rattle.erst_interp.specs.declared.stops.RunStop.{RunStop}
 use Rattle.erst_client.specs.declared.requests.Request.{Request}
 use Rattle.erst_client.specs.Requests.{Performs, Asks}
@@ -33,7 +34,8 @@ abbrev pub reading_device : DeviceState → ℕ → DeviceState
 reading_device old number = record (begun_device operations.Read old) { value = number; offset = 0; id = number }
 
 module _ (tells : Type 0) (own : OwnProgramsRun tells) (first : MachineState) where
-  execute_opens : (device : DeviceState) → IsStill device → Untouched first (on_device first device) → (budget : ℕ) (mid : MachineState) (result : Result (List ℕ) RunStop) (left : ℕ) (last : MachineState) → mid ≡ on_device first device
+  execute_opens : (device : DeviceState) → IsStill device → Untouched first (on_device first device) →
+      (budget : ℕ) (mid : MachineState) (result : Result (List ℕ) RunStop) (left : ℕ) (last : MachineState) → mid ≡ on_device first device
       → Asks (Allows tells) own_entries (record { action = ExecuteOperation; given = 0 } ∷ []) budget mid result left last → Opened first (IsOn tells first device) 1 budget result left last
   execute_opens device still untouched budget mid result left last mid_is asks =
       ask_more tells first (IsOn tells first device) (IsOn tells first device) 1 0 _ _ budget mid result left last
@@ -43,7 +45,8 @@ module _ (tells : Type 0) (own : OwnProgramsRun tells) (first : MachineState) wh
 
   -- what begins an operation and sets its offset, and the requests behind them
   offset_then : (action : Action) (operation : Operation) (device : DeviceState) (more : ℕ) (rest : List Request)
-      → ((budget : ℕ) (result : Result ℕ RunStop) (left : ℕ) (last : MachineState) → Performs (Allows tells) own_entries action 0 budget first result left last → RunTo first (λ w. w ≡ on_device first (begun_device operation first.device)) 1 budget result left last)
+      → ((budget : ℕ) (result : Result ℕ RunStop) (left : ℕ) (last : MachineState) → Performs (Allows tells) own_entries action 0 budget first result left last
+      → RunTo first (λ w. w ≡ on_device first (begun_device operation first.device)) 1 budget result left last)
       → ((budget : ℕ) (mid : MachineState) (result : Result (List ℕ) RunStop) (left : ℕ) (last : MachineState) → mid ≡ on_device first (offset_device operation first.device)
       → Asks (Allows tells) own_entries rest budget mid result left last → Opened first (IsOn tells first device) more budget result left last)
       → (budget : ℕ) (result : Result (List ℕ) RunStop) (left : ℕ) (last : MachineState)
@@ -62,9 +65,11 @@ module _ (tells : Type 0) (own : OwnProgramsRun tells) (first : MachineState) wh
 
   -- the requests of a write, and of a dummy write
   offset_opens : (action : Action) (operation : Operation)
-      → ((budget : ℕ) (result : Result ℕ RunStop) (left : ℕ) (last : MachineState) → Performs (Allows tells) own_entries action 0 budget first result left last → RunTo first (λ w. w ≡ on_device first (begun_device operation first.device)) 1 budget result left last)
+      → ((budget : ℕ) (result : Result ℕ RunStop) (left : ℕ) (last : MachineState) → Performs (Allows tells) own_entries action 0 budget first result left last
+      → RunTo first (λ w. w ≡ on_device first (begun_device operation first.device)) 1 budget result left last)
       → (budget : ℕ) (result : Result (List ℕ) RunStop) (left : ℕ) (last : MachineState)
-      → Asks (Allows tells) own_entries (record { action = action; given = 0 } ∷ record { action = SetRecordOffset; given = 0 } ∷ record { action = ExecuteOperation; given = 0 } ∷ []) budget first result left last
+      → Asks (Allows tells) own_entries (record { action = action; given = 0 } ∷ record { action = SetRecordOffset; given = 0 } ∷ record
+      { action = ExecuteOperation; given = 0 } ∷ []) budget first result left last
       → Opened first (IsOn tells first (offset_device operation first.device)) 4 budget result left last
   offset_opens action operation begins =
       offset_then action operation (offset_device operation first.device) 1 (record { action = ExecuteOperation; given = 0 } ∷ []) begins
@@ -79,7 +84,8 @@ module _ (tells : Type 0) (own : OwnProgramsRun tells) (first : MachineState) wh
   dummy_opens = offset_opens BeginDummyWriteOperation operations.Dummy (begin_run tells own first BeginDummyWriteOperation operations.Dummy refl refl refl (λ m. refl) steps-begin_dummy refl)
 
   -- setting the identifier, and then the execution
-  identifier_opens : (id : ℕ) → id < 2 ^ 64 → (device : DeviceState) → IsStill device → Untouched first (on_device first device) → IsStill (record device { value = id; id = id }) → Untouched first (on_device first (record device { value = id; id = id }))
+  identifier_opens : (id : ℕ) → id < 2 ^ 64 → (device : DeviceState) → IsStill device → Untouched first (on_device first device) →
+      IsStill (record device { value = id; id = id }) → Untouched first (on_device first (record device { value = id; id = id }))
       → (budget : ℕ) (mid : MachineState) (result : Result (List ℕ) RunStop) (left : ℕ) (last : MachineState) → mid ≡ on_device first device
       → Asks (Allows tells) own_entries (record { action = SetRecordIdentifier; given = id } ∷ record { action = ExecuteOperation; given = 0 } ∷ []) budget mid result left last
       → Opened first (IsOn tells first (record device { value = id; id = id })) 3 budget result left last
@@ -89,19 +95,23 @@ module _ (tells : Type 0) (own : OwnProgramsRun tells) (first : MachineState) wh
       (execute_opens (record device { value = id; id = id }) still_after untouched_after)
       asks
 
-  pub clear_opens : (id : ℕ) → id < 2 ^ 64 → (budget : ℕ) (result : Result (List ℕ) RunStop) (left : ℕ) (last : MachineState) → Asks (Allows tells) own_entries (clear_requests id) budget first result left last
+  pub clear_opens : (id : ℕ) → id < 2 ^ 64 → (budget : ℕ) (result : Result (List ℕ) RunStop) (left : ℕ) (last : MachineState) →
+      Asks (Allows tells) own_entries (clear_requests id) budget first result left last
       → Opened first (IsOn tells first (clearing_device first.device id)) 4 budget result left last
   clear_opens id small budget result left last asks =
       ask_more tells first (λ w. w ≡ on_device first (begun_device operations.Clear first.device)) (IsOn tells first (clearing_device first.device id)) 1 3 _ _ budget first result left last
       (λ result left last run. begin_run tells own first BeginClearOperation operations.Clear refl refl refl (λ m. refl) steps-begin_clear refl budget result left last run)
-      (identifier_opens id small (begun_device operations.Clear first.device) (record { no_read = refl; no_change = refl }) (record { flash = refl; layout = refl; cursor = refl; given_up = refl; elsewhere = refl })
+      (identifier_opens id small (begun_device operations.Clear first.device) (record { no_read = refl; no_change = refl })
+      (record { flash = refl; layout = refl; cursor = refl; given_up = refl; elsewhere = refl })
       (record { no_read = refl; no_change = refl }) (record { flash = refl; layout = refl; cursor = refl; given_up = refl; elsewhere = refl }))
       asks
 
-  pub read_opens : (id : ℕ) → id < 2 ^ 64 → (budget : ℕ) (result : Result (List ℕ) RunStop) (left : ℕ) (last : MachineState) → Asks (Allows tells) own_entries (read_requests id) budget first result left last
+  pub read_opens : (id : ℕ) → id < 2 ^ 64 → (budget : ℕ) (result : Result (List ℕ) RunStop) (left : ℕ) (last : MachineState) →
+      Asks (Allows tells) own_entries (read_requests id) budget first result left last
       → Opened first (IsOn tells first (reading_device first.device id)) 6 budget result left last
   read_opens id small =
       offset_then BeginReadOperation operations.Read (reading_device first.device id) 3 (record { action = SetRecordIdentifier; given = id } ∷ record { action = ExecuteOperation; given = 0 } ∷ [])
       (begin_run tells own first BeginReadOperation operations.Read refl refl refl (λ m. refl) steps-begin_read refl)
-      (identifier_opens id small (offset_device operations.Read first.device) (record { no_read = refl; no_change = refl }) (record { flash = refl; layout = refl; cursor = refl; given_up = refl; elsewhere = refl })
+      (identifier_opens id small (offset_device operations.Read first.device) (record { no_read = refl; no_change = refl })
+      (record { flash = refl; layout = refl; cursor = refl; given_up = refl; elsewhere = refl })
       (record { no_read = refl; no_change = refl }) (record { flash = refl; layout = refl; cursor = refl; given_up = refl; elsewhere = refl }))

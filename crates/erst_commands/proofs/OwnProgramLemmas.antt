@@ -5,7 +5,9 @@ use Rattle.std.proofs.lemmas.Nat.{and_mask}
 use Rattle.apei_tables.specs.Fields.{field, stored}
 use Rattle.apei_space.specs.declared.faults.SpaceFault.{SpaceFault}
 use Rattle.erst_entries.specs.declared.actions.Action.{Action}
-use Rattle.erst_entries.specs.declared.actions.Action.TheVariants.{BeginWriteOperation, BeginReadOperation, BeginClearOperation, EndOperation, SetRecordOffset, ExecuteOperation, CheckBusyStatus, GetCommandStatus, GetRecordIdentifier, SetRecordIdentifier, GetRecordCount, BeginDummyWriteOperation}
+use Rattle.erst_entries.specs.declared.actions.Action.TheVariants.{BeginWriteOperation, BeginReadOperation, BeginClearOperation, EndOperation, SetRecordOffset}
+use Rattle.erst_entries.specs.declared.actions.Action.TheVariants.{ExecuteOperation, CheckBusyStatus, GetCommandStatus, GetRecordIdentifier}
+use Rattle.erst_entries.specs.declared.actions.Action.TheVariants.{SetRecordIdentifier, GetRecordCount, BeginDummyWriteOperation}
 use Rattle.erst_entries.specs.declared.entries.Entry.{Entry}
 use Rattle.erst_entries.specs.declared.instructions.Instruction.TheVariants.{ReadRegister, ReadRegisterValue, WriteRegister, WriteRegisterValue}
 use Rattle.erst_entries.specs.Actions.{code_of}
@@ -81,7 +83,8 @@ abbrev one_straight : (tells : Type 0) (action : Action) → AreStraight (Allows
 one_straight tells action = OneEntry (act action) [] (acts action) (serves_act tells action) NoEntry
 
 module _ (tells : Type 0) (law : StraightRuns tells) (action : Action) (given : ℕ) (first : MachineState) where
-  out_of_one : (budget : ℕ) (c : Configuration) (last : MachineState) → DoFirst (Allows tells) (one_entry action) given (act action ∷ []) (one_straight tells action) budget begin first c last → budget < 1
+  out_of_one : (budget : ℕ) (c : Configuration) (last : MachineState) → DoFirst (Allows tells) (one_entry action) given (act action ∷ [])
+      (one_straight tells action) budget begin first c last → budget < 1
       → OwnRun tells action given budget first (Err Budget) 0 last
   out_of_one zero c last does short = subst (λ (w : MachineState). OwnRun tells action given 0 first (Err Budget) 0 w) (sym does.1) (StopsAtOnce refl)
   out_of_one (suc n) c last does short = absurd (omega arith)
@@ -90,7 +93,8 @@ module _ (tells : Type 0) (law : StraightRuns tells) (action : Action) (given : 
       → 1 ≡ steps_of own_entries action → stored (code_of action) 0 (2 ^ 32 - 1) % 2 ^ 32 ≡ code_of action → program_of (code_of action) own_entries ≡ one_entry action
       → Run (Allows tells) (program_of (code_of action) own_entries) given budget first result left last → OwnRun tells action given budget first result left last
   one_run budget result left last same says one code is run =
-      elim (law (one_entry action) (one_straight tells action) given budget first result left last (omega arith) (subst (λ (p : Listed). Run (Allows tells) p given budget first result left last) is run))
+      elim (law (one_entry action) (one_straight tells action) given budget first result left last (omega arith)
+      (subst (λ (p : Listed). Run (Allows tells) p given budget first result left last) is run))
       as (λ result left last ran. OwnRun tells action given budget first result left last) [
         | Through c left last does spent ↦
             let mid = does.0 in
@@ -112,8 +116,10 @@ abbrev give_straight : (tells : Type 0) (action : Action) → AreStraight (Allow
 give_straight tells action =
     OneEntry (give action) (act action ∷ []) (gives action) (serves_give tells action) (OneEntry (act action) [] (acts action) (serves_act tells action) NoEntry)
 
-module _ (tells : Type 0) (law : StraightRuns tells) (action : Action) (given : ℕ) (first : MachineState) (takes : takes_value action ≡ true) (given_is : with_value (given % 2 ^ 64) first ≡ given_to action given first) where
-  out_of_give : (budget : ℕ) (c : Configuration) (last : MachineState) → DoFirst (Allows tells) (give_entries action) given (give action ∷ act action ∷ []) (give_straight tells action) budget begin first c last
+module _ (tells : Type 0) (law : StraightRuns tells) (action : Action) (given : ℕ) (first : MachineState) (takes : takes_value action ≡ true)
+    (given_is : with_value (given % 2 ^ 64) first ≡ given_to action given first) where
+  out_of_give : (budget : ℕ) (c : Configuration) (last : MachineState) → DoFirst (Allows tells) (give_entries action) given (give action ∷ act action ∷ [])
+      (give_straight tells action) budget begin first c last
       → budget < 2 → OwnRun tells action given budget first (Err Budget) 0 last
   out_of_give zero c last does short = subst (λ (w : MachineState). OwnRun tells action given 0 first (Err Budget) 0 w) (sym does.1) (StopsAtOnce refl)
   out_of_give (suc zero) c last does short =
@@ -126,7 +132,8 @@ module _ (tells : Type 0) (law : StraightRuns tells) (action : Action) (given : 
       → 2 ≡ steps_of own_entries action → stored (code_of action) 0 (2 ^ 32 - 1) % 2 ^ 32 ≡ code_of action → program_of (code_of action) own_entries ≡ give_entries action
       → Run (Allows tells) (program_of (code_of action) own_entries) given budget first result left last → OwnRun tells action given budget first result left last
   give_run budget result left last says two code is run =
-      elim (law (give_entries action) (give_straight tells action) given budget first result left last (omega arith) (subst (λ (p : Listed). Run (Allows tells) p given budget first result left last) is run))
+      elim (law (give_entries action) (give_straight tells action) given budget first result left last (omega arith)
+      (subst (λ (p : Listed). Run (Allows tells) p given budget first result left last) is run))
       as (λ result left last ran. OwnRun tells action given budget first result left last) [
         | Through c left last does spent ↦
             let between = does.1.0 in
@@ -147,15 +154,18 @@ module _ (tells : Type 0) (law : StraightRuns tells) (action : Action) (given : 
 abbrev tell_entries : Action → Entry → Listed
 tell_entries action reader = record { action = code_of action; entries = act action ∷ reader ∷ [] }
 
-abbrev tell_straight : (tells : Type 0) (action : Action) (reader : Entry) (straight : IsStraight reader) → Serves (Allows tells) reader straight → AreStraight (Allows tells) (act action ∷ reader ∷ [])
+abbrev tell_straight : (tells : Type 0) (action : Action) (reader : Entry) (straight : IsStraight reader) → Serves (Allows tells) reader straight →
+    AreStraight (Allows tells) (act action ∷ reader ∷ [])
 tell_straight tells action reader straight serves = OneEntry (act action) (reader ∷ []) (acts action) (serves_act tells action) (OneEntry reader [] straight serves NoEntry)
 
 -- a reader answers what VALUE says
 abbrev Reads : (tells : Type 0) (action : Action) (given : ℕ) (reader : Entry) → IsStraight reader → Type 0
 Reads tells action given reader straight =
-    (c d : Configuration) (w v : MachineState) → Does (Allows tells) (tell_entries action reader) given reader straight c w d v → (v ≡ w) × (answer_of action given w.device.value ≡ unwrap_or d.result given)
+    (c d : Configuration) (w v : MachineState) → Does (Allows tells) (tell_entries action reader) given reader straight c w d v →
+    (v ≡ w) × (answer_of action given w.device.value ≡ unwrap_or d.result given)
 
-module _ (tells : Type 0) (law : StraightRuns tells) (action : Action) (given : ℕ) (first : MachineState) (reader : Entry) (straight : IsStraight reader) (serves : Serves (Allows tells) reader straight)
+module _ (tells : Type 0) (law : StraightRuns tells) (action : Action) (given : ℕ) (first : MachineState) (reader : Entry) (straight : IsStraight reader)
+    (serves : Serves (Allows tells) reader straight)
     (told : tells_value action ≡ true) (code : stored (code_of action) 0 (2 ^ 32 - 1) % 2 ^ 32 ≡ code_of action) where
   out_of_tell : (budget : ℕ) (c : Configuration) (last : MachineState)
       → DoFirst (Allows tells) (tell_entries action reader) given (act action ∷ reader ∷ []) (tell_straight tells action reader straight serves) budget begin first c last → budget < 2
@@ -187,7 +197,8 @@ module _ (tells : Type 0) (law : StraightRuns tells) (action : Action) (given : 
       ]
 
 -- the low bits of VALUE
-reads_bits : (tells : Type 0) (action : Action) (given k : ℕ) → ((value : ℕ) → answer_of action given value ≡ value % 2 ^ k) → Reads tells action given (answer action (2 ^ k - 1)) (answers action (2 ^ k - 1))
+reads_bits : (tells : Type 0) (action : Action) (given k : ℕ) → ((value : ℕ) → answer_of action given value ≡ value % 2 ^ k) →
+    Reads tells action given (answer action (2 ^ k - 1)) (answers action (2 ^ k - 1))
 reads_bits tells action given k says c d w v does = (
   does.1.1.1,
   says w.device.value ∙ sym (low_bits w.device.value k) ∙ ap (λ (n : ℕ). field n 0 (2 ^ k - 1)) (sym (same_number does.0 w.device.value does.1.1.0))
@@ -195,37 +206,47 @@ reads_bits tells action given k says c d w v does = (
 )
 
 -- whether VALUE is 1
-reads_one : (tells : Type 0) (action : Action) (given : ℕ) → ((value : ℕ) → answer_of action given value ≡ if value % 2 ^ 64 == 1 then 1 else 0) → Reads tells action given (is_one action) (asks_one action)
+reads_one : (tells : Type 0) (action : Action) (given : ℕ) → ((value : ℕ) → answer_of action given value ≡ if value % 2 ^ 64 == 1 then 1 else 0) →
+    Reads tells action given (is_one action) (asks_one action)
 reads_one tells action given says c d w v does = (
   does.1.1.1,
-  says w.device.value ∙ ap (λ (n : ℕ). if n == 1 then 1 else 0) (sym (low_bits w.device.value 64)) ∙ ap (λ (n : ℕ). if field n 0 (2 ^ 64 - 1) == 1 then 1 else 0) (sym (same_number does.0 w.device.value does.1.1.0))
+  says w.device.value ∙ ap (λ (n : ℕ). if n == 1 then 1 else 0) (sym (low_bits w.device.value 64)) ∙ ap (λ (n : ℕ). if field n 0 (2 ^ 64 - 1) ==
+      1 then 1 else 0) (sym (same_number does.0 w.device.value does.1.1.0))
       ∙ ap (λ (e : Configuration). unwrap_or e.result given) (sym does.1.0),
 )
 
-tell_bits : (tells : Type 0) → StraightRuns tells → (action : Action) (given : ℕ) (first : MachineState) (k : ℕ) → tells_value action ≡ true → stored (code_of action) 0 (2 ^ 32 - 1) % 2 ^ 32 ≡ code_of action
+tell_bits : (tells : Type 0) → StraightRuns tells → (action : Action) (given : ℕ) (first : MachineState) (k : ℕ) → tells_value action ≡ true →
+    stored (code_of action) 0 (2 ^ 32 - 1) % 2 ^ 32 ≡ code_of action
     → (budget : ℕ) (result : Result ℕ RunStop) (left : ℕ) (last : MachineState) → first ≡ given_to action given first → ((value : ℕ) → answer_of action given value ≡ value % 2 ^ k)
     → 2 ≡ steps_of own_entries action → program_of (code_of action) own_entries ≡ tell_entries action (answer action (2 ^ k - 1))
     → Run (Allows tells) (program_of (code_of action) own_entries) given budget first result left last → OwnRun tells action given budget first result left last
 tell_bits tells law action given first k told code budget result left last same says two is run =
-    tell_run tells law action given first (answer action (2 ^ k - 1)) (answers action (2 ^ k - 1)) (serves_answer tells action (2 ^ k - 1)) told code budget result left last same (reads_bits tells action given k says) two is run
+    tell_run tells law action given first (answer action (2 ^ k - 1)) (answers action (2 ^ k - 1)) (serves_answer tells action (2 ^ k - 1)) told code budget
+    result left last same (reads_bits tells action given k says) two is run
 
 -- Each program
 
 pub own_programs_run : (tells : Type 0) → StraightRuns tells → OwnProgramsRun tells
 unfolding own_entries entries_of
-own_programs_run tells law BeginWriteOperation given budget first result left last run = one_run tells law BeginWriteOperation given first budget result left last refl (λ value. refl) refl refl refl run
+own_programs_run tells law BeginWriteOperation given budget first result left last run = one_run tells law BeginWriteOperation given first budget result left
+    last refl (λ value. refl) refl refl refl run
 own_programs_run tells law BeginReadOperation given budget first result left last run = one_run tells law BeginReadOperation given first budget result left last refl (λ value. refl) refl refl refl run
-own_programs_run tells law BeginClearOperation given budget first result left last run = one_run tells law BeginClearOperation given first budget result left last refl (λ value. refl) refl refl refl run
-own_programs_run tells law BeginDummyWriteOperation given budget first result left last run = one_run tells law BeginDummyWriteOperation given first budget result left last refl (λ value. refl) refl refl refl run
+own_programs_run tells law BeginClearOperation given budget first result left last run = one_run tells law BeginClearOperation given first budget result left
+    last refl (λ value. refl) refl refl refl run
+own_programs_run tells law BeginDummyWriteOperation given budget first result left last run = one_run tells law BeginDummyWriteOperation given first budget
+    result left last refl (λ value. refl) refl refl refl run
 own_programs_run tells law EndOperation given budget first result left last run = one_run tells law EndOperation given first budget result left last refl (λ value. refl) refl refl refl run
 own_programs_run tells law ExecuteOperation given budget first result left last run = one_run tells law ExecuteOperation given first budget result left last refl (λ value. refl) refl refl refl run
 own_programs_run tells law SetRecordOffset given budget first result left last run = give_run tells law SetRecordOffset given first refl refl budget result left last (λ value. refl) refl refl refl run
-own_programs_run tells law SetRecordIdentifier given budget first result left last run = give_run tells law SetRecordIdentifier given first refl refl budget result left last (λ value. refl) refl refl refl run
+own_programs_run tells law SetRecordIdentifier given budget first result left last run = give_run tells law SetRecordIdentifier given first refl refl budget
+    result left last (λ value. refl) refl refl refl run
 own_programs_run tells law CheckBusyStatus given budget first result left last run =
     tell_run tells law CheckBusyStatus given first (is_one CheckBusyStatus) (asks_one CheckBusyStatus) (serves_one tells CheckBusyStatus) refl refl budget result left last refl
     (reads_one tells CheckBusyStatus given (λ value. refl)) refl refl run
-own_programs_run tells law GetCommandStatus given budget first result left last run = tell_bits tells law GetCommandStatus given first 8 refl refl budget result left last refl (λ value. refl) refl refl run
-own_programs_run tells law GetRecordCount given budget first result left last run = tell_bits tells law GetRecordCount given first 32 refl refl budget result left last refl (λ value. refl) refl refl run
+own_programs_run tells law GetCommandStatus given budget first result left last run = tell_bits tells law GetCommandStatus given first 8 refl refl budget result
+    left last refl (λ value. refl) refl refl run
+own_programs_run tells law GetRecordCount given budget first result left last run = tell_bits tells law GetRecordCount given first 32 refl refl budget result
+    left last refl (λ value. refl) refl refl run
 own_programs_run tells law action given budget first result left last run = tell_bits tells law action given first 64 refl refl budget result left last refl (λ value. refl) refl refl run
 
 -- How many steps each takes

@@ -25,7 +25,8 @@ module _ (tells : Type 0) where
   put_store : (old new : MachineState) (at : ℕ) (bytes : List ℕ) (answer : Result (Unit {0}) SpaceFault) → Allows tells old (WriteBytes at bytes answer) new → new.device.store ≡ old.device.store
   put_store old new at bytes answer allowed = ap (λ (m : MachineState). m.device.store) allowed.1 ∙ stored_store (location_of old (Memory at) (length bytes)) old at bytes
 
-  pub has_put : (address : ℕ) (bytes : List ℕ) (old : MachineState) (result : Result (Unit {0}) ClientError) (new : MachineState) → Puts (Allows tells) address bytes old result new → HasPut old result new
+  pub has_put : (address : ℕ) (bytes : List ℕ) (old : MachineState) (result : Result (Unit {0}) ClientError) (new : MachineState) →
+      Puts (Allows tells) address bytes old result new → HasPut old result new
   has_put address bytes old result new puts = elim puts as (λ result new puts. HasPut old result new) [
     | NotPut fault last allowed ↦ record {
       store = put_store old last address bytes (Err fault) allowed;

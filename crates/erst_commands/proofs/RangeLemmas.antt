@@ -1,5 +1,6 @@
 -- Accesses of the log range of a machine.
-use Rattle.std.proofs.Common.{◌≡◌, ℕ, ◌+◌, ◌-◌, ◌^◌, ◌<◌, ◌≤◌, Bool, true, false, cond, eqb, List, ◌++◌, length, take, drop, Option, Some, None, Result, Ok, Err, refl, sym, ap, ◌∙◌, arith, append_assoc}
+use Rattle.std.proofs.Common.{◌≡◌, ℕ, ◌+◌, ◌-◌, ◌^◌, ◌<◌, ◌≤◌, Bool, true, false, cond, eqb, List, ◌++◌, length, take, drop, Option, Some, None, Result, Ok}
+use Rattle.std.proofs.Common.{Err, refl, sym, ap, ◌∙◌, arith, append_assoc}
 use Rattle.std.specs.Prelude.{codes, nat_lt, ◌==◌, unwrap_or}
 use Rattle.std.proofs.lemmas.Bool.{le-leb, lt-ltb, ltb-false, ne_eqb}
 use Rattle.std.proofs.lemmas.List.{take_at, take-append-le, drop-append-le}
@@ -48,7 +49,10 @@ location-mark reach fits =
 -- What the frame's checks say of a whole record
 
 passed : (a b c d e : Bool) (first second third fourth fifth : FrameError) (len : ℕ) (bad : Option ℕ) (k : ℕ)
-    → cond {A = Result ℕ FrameError} a (cond b (cond c (Err first) (cond d (Err second) (cond e (Err third) (elim bad as (λ _. Result ℕ FrameError) [ None ↦ Ok len | Some index ↦ Err (Section index) ])))) (Err fourth)) (Err fifth) ≡ Ok k → (e ≡ false) × (len ≡ k)
+    → cond {A = Result ℕ FrameError} a
+    (cond b (cond c (Err first) (cond d (Err second)
+    (cond e (Err third) (elim bad as (λ _. Result ℕ FrameError) [ None ↦ Ok len | Some index ↦ Err (Section index) ])))) (Err fourth)) (Err fifth) ≡ Ok k →
+    (e ≡ false) × (len ≡ k)
 passed true true false false false first second third fourth fifth len None k h = (refl, cc h)
 passed a b c d e first second third fourth fifth len bad k h = absurd (cc h)
 
@@ -71,7 +75,8 @@ checked_says bytes len is =
     let whole = long (nat_lt (length bytes) 128) _ _ len is in
     let rest : (nat_lt (length bytes) (record_length bytes) ≡ false) × (record_length bytes ≡ len) =
     passed (number_at bytes 0 4 == signature) (number_at bytes 6 4 == 2 ^ 32 - 1) (nat_lt (record_length bytes) (bodies_from (section_count bytes))) (nat_lt (2 ^ 32 - 1) (record_length bytes))
-    (nat_lt (length bytes) (record_length bytes)) (Length (record_length bytes)) (Limit (record_length bytes)) (Need (record_length bytes - length bytes)) End Start (record_length bytes) (misplaced bytes) len whole.1 in
+    (nat_lt (length bytes) (record_length bytes)) (Length (record_length bytes)) (Limit (record_length bytes)) (Need (record_length bytes - length bytes)) End
+    Start (record_length bytes) (misplaced bytes) len whole.1 in
     (false_lt (length bytes) 128 whole.0, rest.1, omega (arith, false_lt (length bytes) (record_length bytes) rest.0, rest.1))
 
 pub not_refused : (bytes : List ℕ) (range : ℕ) → write_refusal bytes range ≡ None → IsRecord bytes range

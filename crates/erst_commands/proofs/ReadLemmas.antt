@@ -1,5 +1,6 @@
 -- A read by the machine's own table is the map's.
-use Rattle.std.proofs.Common.{◌≡◌, ◌≢◌, ◌⊎◌, ℕ, zero, suc, ◌+◌, ◌^◌, ◌<◌, ◌≤◌, Bool, true, false, cond, is_ok, if◌then◌else◌, eqb, List, ◌++◌, length, take, drop, Option, Some, None, Result, Ok, Err, refl, sym, ap, subst, ◌∙◌, arith, inl, inr}
+use Rattle.std.proofs.Common.{◌≡◌, ◌≢◌, ◌⊎◌, ℕ, zero, suc, ◌+◌, ◌^◌, ◌<◌, ◌≤◌, Bool, true, false, cond, is_ok, if◌then◌else◌, eqb, List, ◌++◌, length, take}
+use Rattle.std.proofs.Common.{drop, Option, Some, None, Result, Ok, Err, refl, sym, ap, subst, ◌∙◌, arith, inl, inr}
 use Rattle.std.specs.Prelude.{◌||◌, is_some, IsSome}
 use Rattle.std.specs.Ordering.{nat_cmp}
 use Rattle.std.specs.FinMap.{empty, get, len, get-empty, len-empty, same_map, nat_cmp-IsAntisymmetric}
@@ -51,7 +52,8 @@ use Rattle.erst_commands.proofs.OwnProgramLemmas.{steps-check}
 use Rattle.erst_commands.proofs.LookLemmas.{has_asked, has_failed}
 use Rattle.erst_commands.proofs.RangeLemmas.{at-start}
 use Rattle.erst_commands.proofs.ChangeLemmas.{abandoned_idle}
-use Rattle.erst_commands.proofs.SequenceLemmas.{Untouched, StillWaited, IsAtOnce, IsShort, wait_still, ended_from, status_in, HasTold, HasNotTold, HasNotWaited, HasNotAsked, sequence_ends, opened_ok, opened_short}
+use Rattle.erst_commands.proofs.SequenceLemmas.{Untouched, StillWaited, IsAtOnce, IsShort, wait_still, ended_from, status_in, HasTold, HasNotTold, HasNotWaited}
+use Rattle.erst_commands.proofs.SequenceLemmas.{HasNotAsked, sequence_ends, opened_ok, opened_short}
 use Rattle.erst_commands.proofs.OpenLemmas.{IsOn, reading_device, read_opens}
 use Rattle.erst_commands.proofs.SharedLemmas.{equivalent_then, no_answer, no_stop, same_stop, same_number}
 
@@ -73,7 +75,8 @@ of_looked first last looked = record {
   idle = looked.idle;
   equivalent = looked.equivalent;
   never_falls = looked.never_falls;
-  elsewhere = looked.elsewhere ∙ ap (λ (r : List ℕ). record first { device = last.device; memory = record first.memory { range = r } }) (sym (ap (λ (m : MachineState). m.memory.range) looked.elsewhere));
+  elsewhere = looked.elsewhere ∙ ap (λ (r : List ℕ). record first { device = last.device; memory = record first.memory { range = r } })
+      (sym (ap (λ (m : MachineState). m.memory.range) looked.elsewhere));
 }
 
 of_asked : (first last : MachineState) → HasAsked first last → ReadAsked first last
@@ -184,7 +187,8 @@ missing_not_zero id least map next none = elim (cases_eq id 0) [
 pub data ReadStarted (first start : MachineState) (id : ℕ) : Type 0 where
   IsQuiet : (error : ClientError) → IsStill start.device → judged (status_in start) ≡ Err error → ReadMade first start id (Err error) → ReadStarted first start id
   IsReading : (found : ℕ) (body : List ℕ) (generation : ℕ) → HasAsked first start → start.device.reading ≡ Some found → start.device.offset ≡ 0 → start.device.status ≡ statuses.Success
-      → start.device.cursor ≡ first.device.cursor → IsNamed id found (records_of first) → get (records_of first) found ≡ Some (body, generation) → length body ≤ length first.memory.range → ReadStarted first start id
+      → start.device.cursor ≡ first.device.cursor → IsNamed id found (records_of first) → get (records_of first) found ≡ Some (body, generation) →
+      length body ≤ length first.memory.range → ReadStarted first start id
 
 module _ (tells : Type 0) (told : tells) (first start : MachineState) (machine : IsMachine first) (id : ℕ) (elsewhere : start ≡ on_device first start.device) where
   not_there : (store : StoreView) (least : ℕ) → FoundNext tells (abandoned first.device.store) store 0 (Ok (Some least)) → get (records_of first) (named id least) ≡ None
@@ -267,7 +271,8 @@ no_copies store certain = rw certain refl
 module _ (tells : Type 0) (told : tells) (first start : MachineState) (id found : ℕ) (body : List ℕ) (generation : ℕ) (asked : HasAsked first start) (offset : start.device.offset ≡ 0)
     (success : start.device.status ≡ statuses.Success) (cursor : start.device.cursor ≡ first.device.cursor) (is_named : IsNamed id found (records_of first))
     (here : get (records_of first) found ≡ Some (body, generation)) (fits : length body ≤ length first.memory.range) where
-  shown_leaves : (new : MachineState) (store : StoreView) (result : Result ℕ StoreError) (out : List ℕ) → ReadOut tells start.device.store store found (drop start.device.offset start.memory.range) out result → new.device.store ≡ store
+  shown_leaves : (new : MachineState) (store : StoreView) (result : Result ℕ StoreError) (out : List ℕ) → ReadOut tells start.device.store store found
+      (drop start.device.offset start.memory.range) out result → new.device.store ≡ store
       → new ≡ record start { device = new.device; memory = record start.memory { range = new.memory.range } } → ReadLeaves first new
   shown_leaves new store result out read there elsewhere =
       let leaves = read.leaves in
@@ -293,7 +298,8 @@ module _ (tells : Type 0) (told : tells) (first start : MachineState) (id found 
   rest_is : drop start.device.offset start.memory.range ≡ first.memory.range
   rest_is = ap (λ (n : ℕ). drop n start.memory.range) offset ∙ same_range first start asked.looked
 
-  shown_by : (new : MachineState) (store : StoreView) (result : Result ℕ StoreError) (out : List ℕ) → ReadOut tells start.device.store store found (drop start.device.offset start.memory.range) out result
+  shown_by : (new : MachineState) (store : StoreView) (result : Result ℕ StoreError) (out : List ℕ) → ReadOut tells start.device.store store found
+      (drop start.device.offset start.memory.range) out result
       → new.device ≡ shown found result store start.device → new.memory.range ≡ take start.device.offset start.memory.range ++ out
       → new ≡ record start { device = new.device; memory = record start.memory { range = new.memory.range } } → ReadMade first new id (judged (status_in new))
   shown_by new store (Ok size) out read is range elsewhere =
@@ -347,10 +353,12 @@ module _ (tells : Type 0) (own : OwnProgramsRun tells) (w : MachineState) (answe
     ChecksNone : budget ≡ 0 → OnceChecked budget (Err Budget) 0 w
     ChecksHalf : (new : MachineState) → ActsOn tells w 0x6 new → budget ≡ 1 → OnceChecked budget (Err Budget) 0 new
 
-  check_once : (budget : ℕ) (result : Result ℕ RunStop) (left : ℕ) (last : MachineState) → Performs (Allows tells) own_entries CheckBusyStatus 0 budget w result left last → OnceChecked budget result left last
+  check_once : (budget : ℕ) (result : Result ℕ RunStop) (left : ℕ) (last : MachineState) → Performs (Allows tells) own_entries CheckBusyStatus 0 budget w result
+      left last → OnceChecked budget result left last
   check_once budget result left last run = elim (own CheckBusyStatus 0 budget w result left last run) as (λ result left last made. OnceChecked budget result left last) [
     | IsMade left last acted spent ↦
-        subst (λ (n : ℕ). OnceChecked budget (Ok (answer_of CheckBusyStatus 0 n)) left last) (sym (answers_zero last acted)) (ChecksOnce left last acted (ap (λ (n : ℕ). left + n) (sym steps-check) ∙ spent))
+        subst (λ (n : ℕ). OnceChecked budget (Ok (answer_of CheckBusyStatus 0 n)) left last) (sym (answers_zero last acted))
+        (ChecksOnce left last acted (ap (λ (n : ℕ). left + n) (sym steps-check) ∙ spent))
     | StopsAtOnce none ↦ ChecksNone none
     | stops_before few took ↦ absurd (cc)
     | stops_behind last few told acted ↦ ChecksHalf last acted few
@@ -385,7 +393,8 @@ module _ (tells : Type 0) (own : OwnProgramsRun tells) (w : MachineState) (answe
   wait_once timings budget result left last waits = elim waits as (λ result left last waits. OnceWaited budget result left last) [
     | IsIdle busy asked mid left last earlier run ↦ once (Ok 0) left last refl (checked busy asked mid (Ok 0) left last earlier run)
     | IsStopped busy asked mid stop left last earlier run ↦ short stop left last (Err stop) refl (checked busy asked mid (Err stop) left last earlier run)
-    | IsLate busy asked mid answer behind next error last earlier run more pause ↦ absurd (more (zero_of budget (Ok answer) behind next answer refl (checked busy asked mid (Ok answer) behind next earlier run)))
+    | IsLate busy asked mid answer behind next error last earlier run more pause ↦ absurd
+        (more (zero_of budget (Ok answer) behind next answer refl (checked busy asked mid (Ok answer) behind next earlier run)))
   ]
     where
       checked : (busy asked : ℕ) (mid : MachineState) (result : Result ℕ RunStop) (left : ℕ) (last : MachineState) → Busy (Allows tells) own_entries timings budget w busy asked mid
@@ -421,9 +430,11 @@ module _ (tells : Type 0) (own : OwnProgramsRun tells) (told : tells) (first : M
   IsStarted w = IsOn tells first (reading_device first.device id) w
 
   not_opened : (budget : ℕ) (w : MachineState) → Untouched first w → budget < 6 → ReadCommand first (ended_from w) id budget (Err (Stopped Budget)) 0
-  not_opened budget w untouched short = StopsBefore (untouched_end first w untouched) (ap (λ (m : MachineState). m.memory.range) untouched.elsewhere) untouched.cursor (inl short) (omega (arith, short))
+  not_opened budget w untouched short = StopsBefore (untouched_end first w untouched) (ap (λ (m : MachineState). m.memory.range) untouched.elsewhere)
+      untouched.cursor (inl short) (omega (arith, short))
 
-  opened_read : (budget : ℕ) (answers : List ℕ) (left : ℕ) (w : MachineState) → Asks (Allows tells) own_entries (read_requests id) budget first (Ok answers) left w → ReadStarted first w id × (left + 6 ≡ budget)
+  opened_read : (budget : ℕ) (answers : List ℕ) (left : ℕ) (w : MachineState) → Asks (Allows tells) own_entries (read_requests id) budget first (Ok answers)
+      left w → ReadStarted first w id × (left + 6 ≡ budget)
   opened_read budget answers left w asks =
       let opened = opened_ok first IsStarted 6 budget answers (Ok answers) left w refl (read_opens tells own first id small budget (Ok answers) left w asks) in
       (read_started tells told first w machine id opened.0.1 opened.0.0, opened.1)
@@ -446,7 +457,8 @@ module _ (tells : Type 0) (own : OwnProgramsRun tells) (told : tells) (first : M
         subst (λ (m : MachineState). ReadCommand first (ended_from m) id budget (Err (Stopped Budget)) 0) (sym is)
         (StopsBehind (Err why) (made_end first start other.device.value id (Err why) made) (omega (arith, opened)) (omega (arith, few, needs-read id)))
 
-    quiet_not_told : (waited : ℕ) (idle other : MachineState) (answer : Result (Unit {0}) ClientError) → answer ≡ Ok tt → waited < 2 → other ≡ with_value other.device.value idle → StillWaited start asked answer waited idle
+    quiet_not_told : (waited : ℕ) (idle other : MachineState) (answer : Result (Unit {0}) ClientError) → answer ≡ Ok tt → waited < 2 →
+        other ≡ with_value other.device.value idle → StillWaited start asked answer waited idle
         → ReadCommand first (ended_from other) id budget (Err (Stopped Budget)) 0
     quiet_not_told waited idle other answer is short same ends =
         (elim ends as (λ answer waited idle ends. answer ≡ Ok tt → waited < 2 → other ≡ with_value other.device.value idle → ReadCommand first (ended_from other) id budget (Err (Stopped Budget)) 0) [
@@ -475,22 +487,26 @@ module _ (tells : Type 0) (own : OwnProgramsRun tells) (told : tells) (first : M
   ]
 
   -- one that shows the record by its first check
-  module _ (start : MachineState) (zero_is : (new : MachineState) → ActsOn tells start 0x6 new → new.device.value ≡ 0) (shows : (new : MachineState) → ActsOn tells start 0x6 new → ReadMade first new id (judged (status_in new)))
+  module _ (start : MachineState) (zero_is : (new : MachineState) → ActsOn tells start 0x6 new → new.device.value ≡ 0) (shows : (new : MachineState) →
+      ActsOn tells start 0x6 new → ReadMade first new id (judged (status_in new)))
       (before : ReadLeaves first start) (range_is : start.memory.range ≡ first.memory.range) (cursor_is : start.device.cursor ≡ first.device.cursor)
       (taken : refusal_of first.device.store.layout (Read id) (records_of first) ≡ None) (budget asked : ℕ) (opened : asked + 6 ≡ budget) where
     shown_told : (waited left : ℕ) (idle : MachineState) (answer : Result (Unit {0}) ClientError) → answer ≡ Ok tt → left + 2 ≡ waited → OnceWaited tells own start zero_is asked answer waited idle
         → ReadCommand first (ended_from (with_value (status_in idle) idle)) id budget (judged (status_in idle)) left
     shown_told waited left idle answer is spent ends =
         (elim ends as (λ answer waited idle ends. answer ≡ Ok tt → left + 2 ≡ waited → ReadCommand first (ended_from (with_value (status_in idle) idle)) id budget (judged (status_in idle)) left) [
-          | IsOnce waited idle acted sum ↦ λ e behind. Answers _ left (made_end first idle (status_in idle) id (judged (status_in idle)) (shows idle acted)) (omega (arith, opened, sum, behind, needs-read id))
+          | IsOnce waited idle acted sum ↦ λ e behind. Answers _ left (made_end first idle (status_in idle) id (judged (status_in idle)) (shows idle acted))
+              (omega (arith, opened, sum, behind, needs-read id))
           | IsNone none ↦ λ e behind. absurd (cc e)
           | IsHalf idle acted one ↦ λ e behind. absurd (cc e)
         ]) is spent
 
-    shown_cut : (idle other : MachineState) → ActsOn tells start 0x6 idle → other ≡ with_value other.device.value idle → 7 ≤ budget → budget < 10 → ReadCommand first (ended_from other) id budget (Err (Stopped Budget)) 0
+    shown_cut : (idle other : MachineState) → ActsOn tells start 0x6 idle → other ≡ with_value other.device.value idle → 7 ≤ budget → budget < 10 →
+        ReadCommand first (ended_from other) id budget (Err (Stopped Budget)) 0
     shown_cut idle other acted is behind few =
         subst (λ (m : MachineState). ReadCommand first (ended_from m) id budget (Err (Stopped Budget)) 0) (sym is)
-        (StopsBehind (judged (status_in idle)) (made_end first idle other.device.value id (judged (status_in idle)) (shows idle acted)) (omega (arith, behind, few_to (judged (status_in idle)))) (omega (arith, few, needs-read id)))
+        (StopsBehind (judged (status_in idle)) (made_end first idle other.device.value id (judged (status_in idle)) (shows idle acted))
+        (omega (arith, behind, few_to (judged (status_in idle)))) (omega (arith, few, needs-read id)))
 
     shown_not_told : (waited : ℕ) (idle other : MachineState) (answer : Result (Unit {0}) ClientError) → answer ≡ Ok tt → waited < 2 → other ≡ with_value other.device.value idle
         → OnceWaited tells own start zero_is asked answer waited idle → ReadCommand first (ended_from other) id budget (Err (Stopped Budget)) 0
@@ -520,31 +536,43 @@ module _ (tells : Type 0) (own : OwnProgramsRun tells) (told : tells) (first : M
   by_told : (timings : Option (ℕ × ℕ)) (budget asked waited left : ℕ) (start idle : MachineState) → ReadStarted first start id → asked + 6 ≡ budget → left + 2 ≡ waited
       → Waits (Allows tells) own_entries timings asked start (Ok tt) waited idle → ReadCommand first (ended_from (with_value (status_in idle) idle)) id budget (judged (status_in idle)) left
   by_told timings budget asked waited left start idle started opened spent waits = elim started [
-    | IsQuiet why still status made ↦ quiet_told start why status made budget asked opened waited left idle (Ok tt) refl spent (wait_still tells own timings start still asked (Ok tt) waited idle waits)
+    | IsQuiet why still status made ↦ quiet_told start why status made budget asked opened waited left idle (Ok tt) refl spent
+        (wait_still tells own timings start still asked (Ok tt) waited idle waits)
     | IsReading found body generation has reading offset success at is_named here fits ↦
-        shown_told start (reading_zero start found reading) (is_shown tells told first start id found body generation has offset success at is_named here fits reading) (of_looked first start has.looked)
-        (same_range first start has.looked) at (read_named first.device.store.layout id found (records_of first) (body, generation) is_named here) budget asked opened waited left idle (Ok tt) refl spent (wait_once tells own start (reading_zero start found reading) timings asked (Ok tt) waited idle waits)
+        shown_told start (reading_zero start found reading) (is_shown tells told first start id found body generation has offset success at is_named here fits
+        reading) (of_looked first start has.looked)
+        (same_range first start has.looked) at (read_named first.device.store.layout id found (records_of first) (body, generation) is_named here) budget asked
+        opened waited left idle (Ok tt) refl spent (wait_once tells own start (reading_zero start found reading) timings asked (Ok tt) waited idle waits)
   ]
 
-  by_not_told : (timings : Option (ℕ × ℕ)) (budget asked waited : ℕ) (start idle other : MachineState) → ReadStarted first start id → asked + 6 ≡ budget → waited < 2 → other ≡ with_value other.device.value idle
+  by_not_told : (timings : Option (ℕ × ℕ)) (budget asked waited : ℕ) (start idle other : MachineState) → ReadStarted first start id → asked + 6 ≡ budget →
+      waited < 2 → other ≡ with_value other.device.value idle
       → Waits (Allows tells) own_entries timings asked start (Ok tt) waited idle → ReadCommand first (ended_from other) id budget (Err (Stopped Budget)) 0
   by_not_told timings budget asked waited start idle other started opened short same waits = elim started [
-    | IsQuiet why still status made ↦ quiet_not_told start why status made budget asked opened waited idle other (Ok tt) refl short same (wait_still tells own timings start still asked (Ok tt) waited idle waits)
+    | IsQuiet why still status made ↦ quiet_not_told start why status made budget asked opened waited idle other (Ok tt) refl short same
+        (wait_still tells own timings start still asked (Ok tt) waited idle waits)
     | IsReading found body generation has reading offset success at is_named here fits ↦
-        shown_not_told start (reading_zero start found reading) (is_shown tells told first start id found body generation has offset success at is_named here fits reading) (of_looked first start has.looked)
-        (same_range first start has.looked) at (read_named first.device.store.layout id found (records_of first) (body, generation) is_named here) budget asked opened waited idle other (Ok tt) refl short same (wait_once tells own start (reading_zero start found reading) timings asked (Ok tt) waited idle waits)
+        shown_not_told start (reading_zero start found reading) (is_shown tells told first start id found body generation has offset success at is_named here
+        fits reading) (of_looked first start has.looked)
+        (same_range first start has.looked) at (read_named first.device.store.layout id found (records_of first) (body, generation) is_named here) budget asked
+        opened waited idle other (Ok tt) refl short same (wait_once tells own start (reading_zero start found reading) timings asked (Ok tt) waited idle
+        waits)
   ]
 
   by_not_waited : (timings : Option (ℕ × ℕ)) (budget asked : ℕ) (error : ClientError) (left : ℕ) (start last : MachineState) → ReadStarted first start id → asked + 6 ≡ budget
       → Waits (Allows tells) own_entries timings asked start (Err error) left last → ReadCommand first (ended_from last) id budget (Err error) left
   by_not_waited timings budget asked error left start last started opened waits = elim started [
-    | IsQuiet why still status made ↦ quiet_not_waited start why status made budget asked opened error (Err error) left last refl (wait_still tells own timings start still asked (Err error) left last waits)
+    | IsQuiet why still status made ↦ quiet_not_waited start why status made budget asked opened error (Err error) left last refl
+        (wait_still tells own timings start still asked (Err error) left last waits)
     | IsReading found body generation has reading offset success at is_named here fits ↦
-        shown_not_waited start (reading_zero start found reading) (is_shown tells told first start id found body generation has offset success at is_named here fits reading) (of_looked first start has.looked)
-        (same_range first start has.looked) at (read_named first.device.store.layout id found (records_of first) (body, generation) is_named here) budget asked opened error (Err error) left last refl (wait_once tells own start (reading_zero start found reading) timings asked (Err error) left last waits)
+        shown_not_waited start (reading_zero start found reading) (is_shown tells told first start id found body generation has offset success at is_named here
+        fits reading) (of_looked first start has.looked)
+        (same_range first start has.looked) at (read_named first.device.store.layout id found (records_of first) (body, generation) is_named here) budget asked
+        opened error (Err error) left last refl (wait_once tells own start (reading_zero start found reading) timings asked (Err error) left last waits)
   ]
 
-  pub read_command : (timings : Option (ℕ × ℕ)) (budget : ℕ) (result : Result (Unit {0}) ClientError) (left : ℕ) (last : MachineState) → Sequence (Allows tells) own_entries timings (read_requests id) budget first result left last
+  pub read_command : (timings : Option (ℕ × ℕ)) (budget : ℕ) (result : Result (Unit {0}) ClientError) (left : ℕ) (last : MachineState) →
+      Sequence (Allows tells) own_entries timings (read_requests id) budget first result left last
       → ReadCommand first last id budget result left
   read_command timings budget result left last sequence =
       elim (sequence_ends tells own timings (read_requests id) budget first result left last sequence) as (λ result left last ends. ReadCommand first last id budget result left) [

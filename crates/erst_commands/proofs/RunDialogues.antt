@@ -21,7 +21,8 @@ use Rattle.erst_interp.specs.declared.stops.RunStop.TheVariants.{Register as Bad
 use Rattle.erst_interp.specs.Instructions.{Work, GoOn, GoTo, WaitFor, TakeField, StoreValue, ChangeField, CompareField, MoveBytes, work_of, HasWork, uses_register, reads_first}
 use Rattle.erst_interp.specs.Configurations.{begin, next}
 use Rattle.erst_interp.specs.Accesses.{FieldRead, Got, Refused, Store, Whole, Beside, Unread}
-use Rattle.erst_interp.specs.Steps.{blocks, Waited, AtOnce, After, Step, Computes, Goes, Stalls, Takes, Stores, Changes, Compares, Moves, Refusal, NotRead, NotCompared, NotStored, NotChanged, Halt, Unknown, Unregistered, Outside, IsRefused, TooLong, Unpaid, NotCopied}
+use Rattle.erst_interp.specs.Steps.{blocks, Waited, AtOnce, After, Step, Computes, Goes, Stalls, Takes, Stores, Changes, Compares, Moves, Refusal, NotRead}
+use Rattle.erst_interp.specs.Steps.{NotCompared, NotStored, NotChanged, Halt, Unknown, Unregistered, Outside, IsRefused, TooLong, Unpaid, NotCopied}
 use Rattle.erst_interp.specs.Runs.{may_be_empty, HasProgram, HasEntry, NeedsNone, task_of, Walk, Begun, Then, Run, NoProgram, Finishes, Exhausted, Halts}
 use Rattle.erst_commands.proofs.Dialogues.{Dialogue, Ends, Calls, go_on, Held, IsDone, Answered, done, then}
 use Rattle.erst_interp.proofs.Terms.{move_limit, copy_of, compared}
@@ -177,14 +178,16 @@ can_pay : (left more paid : ℕ) → left + more ≡ paid → nat_lt paid more �
 can_pay left more paid e = within_false paid more (omega arith)
 
 module _ {W : Type 0} (allows : W → Call → W → Type 0) where
-  field_held : (register : Register) (mask : ℕ) (old : W) (answer : Result ℕ SpaceFault) (new : W) → FieldRead allows register mask old answer new → Held allows (read_field register mask) old answer new
+  field_held : (register : Register) (mask : ℕ) (old : W) (answer : Result ℕ SpaceFault) (new : W) → FieldRead allows register mask old answer new →
+      Held allows (read_field register mask) old answer new
   unfolding read_field
   field_held register mask old answer new read = elim read as (λ answer new read. Held allows (read_field register mask) old answer new) [
     | Got number new allowed ↦ Answered _ _ old (Read register.place register.access (Ok number)) new _ new refl allowed (IsDone _ new)
     | Refused fault new allowed ↦ Answered _ _ old (Read register.place register.access (Err fault)) new _ new refl allowed (IsDone _ new)
   ]
 
-  register_held : (register : Register) (value : ℕ) (old : W) (answer : Result (Unit {0}) SpaceFault) (new : W) → allows old (Write register.place register.access value answer) new → Held allows (write_register register value) old answer new
+  register_held : (register : Register) (value : ℕ) (old : W) (answer : Result (Unit {0}) SpaceFault) (new : W) →
+      allows old (Write register.place register.access value answer) new → Held allows (write_register register value) old answer new
   unfolding write_register
   register_held register value old answer new allowed = Answered _ _ old (Write register.place register.access value answer) new answer new refl allowed (IsDone answer new)
 
@@ -192,7 +195,8 @@ module _ {W : Type 0} (allows : W → Call → W → Type 0) where
       → Held allows (store_field register entry value) old answer new
   unfolding store_field
   store_held register entry value old answer new store = elim store as (λ answer new store. Held allows (store_field register entry value) old answer new) [
-    | Whole answer new whole allowed ↦ subst (λ (b : Bool). Held allows (store_by b register entry value) old answer new) (sym (ap (λ (n : ℕ). n == 0) whole)) (register_held register _ old answer new allowed)
+    | Whole answer new whole allowed ↦ subst (λ (b : Bool). Held allows (store_by b register entry value) old answer new) (sym (ap (λ (n : ℕ). n == 0) whole))
+        (register_held register _ old answer new allowed)
     | Beside number mid answer new beside read allowed ↦ subst (λ (b : Bool). Held allows (store_by b register entry value) old answer new) (sym (ne_eqb (bit_and entry.flags 1) 0 beside))
         (Answered _ _ old (Read register.place register.access (Ok number)) mid answer new refl read (register_held register _ mid answer new allowed))
     | Unread fault new beside read ↦ subst (λ (b : Bool). Held allows (store_by b register entry value) old (Err fault) new) (sym (ne_eqb (bit_and entry.flags 1) 0 beside))
@@ -206,7 +210,8 @@ module _ {W : Type 0} (allows : W → Call → W → Type 0) where
         subst (λ (i : Option Instruction). Held allows (do_instruction task paid i) old outcome new) (sym has.code)
         (subst (λ (w : Work). Held allows (do_work task paid w) old outcome new) (sym has.work_is) held)
 
-    on_register : (more : Register → Dialogue Outcome) (found : Result Register BadRegister) (register : Register) (outcome : Outcome) (new : W) → found ≡ Ok register → Held allows (more register) old outcome new
+    on_register : (more : Register → Dialogue Outcome) (found : Result Register BadRegister) (register : Register) (outcome : Outcome) (new : W) →
+        found ≡ Ok register → Held allows (more register) old outcome new
         → Held allows (with_register task paid found more) old outcome new
     on_register more found register outcome new is held = subst (λ (r : Result Register BadRegister). Held allows (with_register task paid r more) old outcome new) (sym is) held
 
@@ -220,7 +225,8 @@ module _ {W : Type 0} (allows : W → Call → W → Type 0) where
     step_held d more new step = elim step as (λ d more new step. (left : ℕ) → left + more ≡ paid → Held allows (execute task paid) old (Ok d, left) new) [
       | Computes d has ↦ λ left e. work_held (GoOn d) _ old has (done _ _ old (ok_left d left paid e))
       | Goes to has within ↦ λ left e. work_held (GoTo to) _ old has
-          (subst (λ (b : Bool). Held allows (go_to task paid b to) old (ok_at (record (next task.at) { place = to }) left) old) (sym (within_true to task.len within)) (done _ _ old (ok_left _ left paid e)))
+          (subst (λ (b : Bool). Held allows (go_to task paid b to) old (ok_at (record (next task.at) { place = to }) left) old)
+          (sym (within_true to task.len within)) (done _ _ old (ok_left _ left paid e)))
       | Stalls micros new has allowed ↦ λ left e. work_held (WaitFor micros) _ new has (Answered _ _ old (Wait micros) new _ new refl allowed (done _ _ new (ok_left _ left paid e)))
       | Takes taken register x new has check read ↦ λ left e. work_held (TakeField taken) _ new has
           (on_register (take_field task paid taken) _ register _ new check (then _ (field_held register task.entry.mask old (Ok x) new read) (done _ _ new (ok_left _ left paid e))))
@@ -240,7 +246,8 @@ module _ {W : Type 0} (allows : W → Call → W → Type 0) where
     ]
 
     -- what is read before all else is refused
-    not_read : (work : Work) (register : Register) (fault : SpaceFault) (new : W) → reads_first work ≡ true → checked task.entry.region ≡ Ok register → FieldRead allows register task.entry.mask old (Err fault) new
+    not_read : (work : Work) (register : Register) (fault : SpaceFault) (new : W) → reads_first work ≡ true → checked task.entry.region ≡ Ok register →
+        FieldRead allows register task.entry.mask old (Err fault) new
         → Held allows (do_work task paid work) old (Err (Space task.at.place fault), paid) new
     not_read (TakeField taken) register fault new reads check read =
         on_register (take_field task paid taken) _ register _ new check (then _ (field_held register task.entry.mask old (Err fault) new read) (IsDone _ new))
@@ -262,10 +269,12 @@ module _ {W : Type 0} (allows : W → Call → W → Type 0) where
           (then _ (store_held register task.entry (changed x) mid (Err fault) new store) (IsDone _ new))))
     ]
 
-    no_register : (more : Register → Dialogue Outcome) (found : Result Register BadRegister) (why : BadRegister) → found ≡ Err why → Held allows (with_register task paid found more) old (Err (BadRegion task.at.place why), paid) old
+    no_register : (more : Register → Dialogue Outcome) (found : Result Register BadRegister) (why : BadRegister) → found ≡ Err why →
+        Held allows (with_register task paid found more) old (Err (BadRegion task.at.place why), paid) old
     no_register more found why is = subst (λ (r : Result Register BadRegister). Held allows (with_register task paid r more) old (Err (BadRegion task.at.place why), paid) old) (sym is) (IsDone _ old)
 
-    unregistered : (work : Work) (why : BadRegister) → uses_register work ≡ true → checked task.entry.region ≡ Err why → Held allows (do_work task paid work) old (Err (BadRegion task.at.place why), paid) old
+    unregistered : (work : Work) (why : BadRegister) → uses_register work ≡ true → checked task.entry.region ≡ Err why → Held allows (do_work task paid work)
+        old (Err (BadRegion task.at.place why), paid) old
     unregistered (GoOn d) why used check = absurd (cc)
     unregistered (GoTo to) why used check = absurd (cc)
     unregistered (WaitFor micros) why used check = absurd (cc)
@@ -305,8 +314,10 @@ module _ {W : Type 0} (allows : W → Call → W → Type 0) where
     abbrev RunHeld : ℕ → Configuration → W → Result ℕ RunStop × ℕ → W → Type 0
     RunHeld left c mid outcome last = (fuel : ℕ) → left < fuel → Held allows (run_from program given fuel left c) mid outcome last
 
-    goes_on : (fuel left : ℕ) (c : Configuration) (mid : W) (entry : Entry) (d : Configuration) (more after : ℕ) (new : W) (outcome : Result ℕ RunStop × ℕ) (last : W) → slice_get program.entries c.place ≡ Some entry
-        → Step allows (task_of program given entry c) mid d more new → after + more + 1 ≡ left → RunHeld after d new outcome last → left < fuel → Held allows (run_from program given fuel left c) mid outcome last
+    goes_on : (fuel left : ℕ) (c : Configuration) (mid : W) (entry : Entry) (d : Configuration) (more after : ℕ) (new : W) (outcome : Result ℕ RunStop × ℕ)
+        (last : W) → slice_get program.entries c.place ≡ Some entry
+        → Step allows (task_of program given entry c) mid d more new → after + more + 1 ≡ left → RunHeld after d new outcome last → left < fuel →
+        Held allows (run_from program given fuel left c) mid outcome last
     goes_on zero left c mid entry d more after new outcome last here step spent rest enough = absurd (omega arith)
     goes_on (suc fuel) left c mid entry d more after new outcome last here step spent rest enough =
         let paid : suc (after + more) ≡ left = omega arith in
@@ -314,7 +325,8 @@ module _ {W : Type 0} (allows : W → Call → W → Type 0) where
         (subst (λ (n : ℕ). Held allows (at_place program given (Some entry) n c (run_from program given fuel)) mid outcome last) paid
         (then _ (step_held (task_of program given entry c) (after + more) mid d more new step after refl) (rest fuel (omega arith))))
 
-    walk_held : (budget : ℕ) (first : W) (left : ℕ) (c : Configuration) (mid : W) → Walk allows program given budget first left c mid → (outcome : Result ℕ RunStop × ℕ) (last : W) → RunHeld left c mid outcome last → RunHeld budget begin first outcome last
+    walk_held : (budget : ℕ) (first : W) (left : ℕ) (c : Configuration) (mid : W) → Walk allows program given budget first left c mid →
+        (outcome : Result ℕ RunStop × ℕ) (last : W) → RunHeld left c mid outcome last → RunHeld budget begin first outcome last
     walk_held budget first left c mid walk = elim walk as (λ left c mid walk. (outcome : Result ℕ RunStop × ℕ) (last : W) → RunHeld left c mid outcome last → RunHeld budget begin first outcome last) [
       | Begun ↦ λ outcome last rest. rest
       | Then left c mid entry d more after new (walk → before) here step spent ↦ λ outcome last rest. before outcome last
@@ -324,7 +336,8 @@ module _ {W : Type 0} (allows : W → Call → W → Type 0) where
     finished : (left : ℕ) (c : Configuration) (last : W) → length program.entries ≤ c.place → RunHeld left c last (Ok (unwrap_or c.result given), left) last
     finished left c last end zero enough = absurd (omega arith)
     finished left c last end (suc fuel) enough =
-        subst (λ (e : Option Entry). Held allows (at_place program given e left c (run_from program given fuel)) last (Ok (unwrap_or c.result given), left) last) (sym (slice_get_past program.entries c.place end)) (IsDone _ last)
+        subst (λ (e : Option Entry). Held allows (at_place program given e left c (run_from program given fuel)) last (Ok (unwrap_or c.result given), left)
+        last) (sym (slice_get_past program.entries c.place end)) (IsDone _ last)
 
     exhausted : (c : Configuration) (last : W) → c.place < length program.entries → RunHeld 0 c last (Err Budget, 0) last
     exhausted c last within zero enough = absurd (omega arith)
@@ -333,7 +346,8 @@ module _ {W : Type 0} (allows : W → Call → W → Type 0) where
       | inr past ↦ absurd (let beyond = past.0 in omega arith)
     ]
 
-    halted : (paid : ℕ) (c : Configuration) (mid : W) (entry : Entry) (stop : RunStop) (left : ℕ) (last : W) → slice_get program.entries c.place ≡ Some entry → Halt allows (task_of program given entry c) paid mid stop left last
+    halted : (paid : ℕ) (c : Configuration) (mid : W) (entry : Entry) (stop : RunStop) (left : ℕ) (last : W) → slice_get program.entries c.place ≡ Some entry →
+        Halt allows (task_of program given entry c) paid mid stop left last
         → RunHeld (paid + 1) c mid (Err stop, left) last
     halted paid c mid entry stop left last here halt zero enough = absurd (omega arith)
     halted paid c mid entry stop left last here halt (suc fuel) enough =
@@ -342,7 +356,8 @@ module _ {W : Type 0} (allows : W → Call → W → Type 0) where
         (subst (λ (n : ℕ). Held allows (at_place program given (Some entry) n c (run_from program given fuel)) mid (Err stop, left) last) one
         (then _ (halt_held (task_of program given entry c) paid mid stop left last halt) (IsDone _ last)))
 
-    run_if_has : (none may : Bool) (budget : ℕ) (old : W) (outcome : Result ℕ RunStop × ℕ) (new : W) → (none ≡ true → may ≡ true) → Held allows (run_from program given (suc budget) budget begin) old outcome new
+    run_if_has : (none may : Bool) (budget : ℕ) (old : W) (outcome : Result ℕ RunStop × ℕ) (new : W) → (none ≡ true → may ≡ true) →
+        Held allows (run_from program given (suc budget) budget begin) old outcome new
         → Held allows (run_if none may program given budget) old outcome new
     run_if_has true true budget old outcome new has held = held
     run_if_has true false budget old outcome new has held = let e : false ≡ true = has refl in absurd (cc)
@@ -355,17 +370,20 @@ module _ {W : Type 0} (allows : W → Call → W → Type 0) where
       | NeedsNone may ↦ may
     ]
 
-    begun_held : (budget : ℕ) (first : W) (outcome : Result ℕ RunStop × ℕ) (last : W) → HasProgram program → RunHeld budget begin first outcome last → Held allows (run_of program given budget) first outcome last
+    begun_held : (budget : ℕ) (first : W) (outcome : Result ℕ RunStop × ℕ) (last : W) → HasProgram program → RunHeld budget begin first outcome last →
+        Held allows (run_of program given budget) first outcome last
     unfolding run_of
     begun_held budget first outcome last has held = run_if_has _ _ budget first outcome last (has_one has) (held (suc budget) (omega arith))
 
-    none_held : (budget : ℕ) (first : W) → length program.entries ≡ 0 → may_be_empty program.action ≡ false → Held allows (run_of program given budget) first (Err (NoAction program.action), budget) first
+    none_held : (budget : ℕ) (first : W) → length program.entries ≡ 0 → may_be_empty program.action ≡ false → Held allows (run_of program given budget) first
+        (Err (NoAction program.action), budget) first
     unfolding run_of
     none_held budget first none full =
         subst (λ (b : Bool). Held allows (run_if b (may_be_empty program.action) program given budget) first (Err (NoAction program.action), budget) first) (sym (ap (λ (n : ℕ). n == 0) none))
         (subst (λ (b : Bool). Held allows (run_if true b program given budget) first (Err (NoAction program.action), budget) first) (sym full) (IsDone _ first))
 
-    pub run_held : (budget : ℕ) (first : W) (answer : Result ℕ RunStop) (left : ℕ) (last : W) → Run allows program given budget first answer left last → Held allows (run_of program given budget) first (answer, left) last
+    pub run_held : (budget : ℕ) (first : W) (answer : Result ℕ RunStop) (left : ℕ) (last : W) → Run allows program given budget first answer left last →
+        Held allows (run_of program given budget) first (answer, left) last
     run_held budget first answer left last run = elim run as (λ answer left last run. Held allows (run_of program given budget) first (answer, left) last) [
       | NoProgram none full ↦ none_held budget first none full
       | Finishes left c last has walk end ↦ begun_held budget first _ last has (walk_held budget first left c last walk _ last (finished left c last end))

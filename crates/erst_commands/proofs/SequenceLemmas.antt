@@ -65,35 +65,40 @@ record FallenTo (first : MachineState) (cost budget : ℕ) (stop : RunStop) (lef
   untouched : Untouched first w
   short : budget < cost
 
-pub ok_reaches : (first : MachineState) (P : MachineState → Type 0) (cost budget : ℕ) (result : Result ℕ RunStop) (left : ℕ) (w : MachineState) (answer : ℕ) → result ≡ Ok answer → RunTo first P cost budget result left w
+pub ok_reaches : (first : MachineState) (P : MachineState → Type 0) (cost budget : ℕ) (result : Result ℕ RunStop) (left : ℕ) (w : MachineState) (answer : ℕ) →
+    result ≡ Ok answer → RunTo first P cost budget result left w
     → ReachedTo P cost budget left w
 ok_reaches first P cost budget result left w answer is run = (elim run as (λ result left w run. result ≡ Ok answer → ReachedTo P cost budget left w) [
   | Reaches other left w holds spent ↦ λ e. record { holds = holds; spent = spent }
   | Falls w untouched short ↦ λ e. absurd (no_stop answer Budget e)
 ]) is
 
-err_falls : (first : MachineState) (P : MachineState → Type 0) (cost budget : ℕ) (result : Result ℕ RunStop) (left : ℕ) (w : MachineState) (stop : RunStop) → result ≡ Err stop → RunTo first P cost budget result left w
+err_falls : (first : MachineState) (P : MachineState → Type 0) (cost budget : ℕ) (result : Result ℕ RunStop) (left : ℕ) (w : MachineState) (stop : RunStop) →
+    result ≡ Err stop → RunTo first P cost budget result left w
     → FallenTo first cost budget stop left w
 err_falls first P cost budget result left w stop is run = (elim run as (λ result left w run. result ≡ Err stop → FallenTo first cost budget stop left w) [
   | Reaches other left w holds spent ↦ λ e. absurd (no_answer other stop e)
   | Falls w untouched short ↦ λ e. record { stop_is = sym (same_stop Budget stop e); none_left = refl; untouched = untouched; short = short }
 ]) is
 
-pub opened_weaker : (first : MachineState) (P Q : MachineState → Type 0) (cost budget : ℕ) (result : Result (List ℕ) RunStop) (left : ℕ) (w : MachineState) → ((w : MachineState) → P w → Q w) → Opened first P cost budget result left w
+pub opened_weaker : (first : MachineState) (P Q : MachineState → Type 0) (cost budget : ℕ) (result : Result (List ℕ) RunStop) (left : ℕ) (w : MachineState) →
+    ((w : MachineState) → P w → Q w) → Opened first P cost budget result left w
     → Opened first Q cost budget result left w
 opened_weaker first P Q cost budget result left w weaker opened = elim opened as (λ result left w opened. Opened first Q cost budget result left w) [
   | Opens answers left w holds sum ↦ Opens answers left w (weaker w holds) sum
   | Halts w untouched short ↦ Halts w untouched short
 ]
 
-pub opened_ok : (first : MachineState) (P : MachineState → Type 0) (cost budget : ℕ) (answers : List ℕ) (result : Result (List ℕ) RunStop) (left : ℕ) (w : MachineState) → result ≡ Ok answers → Opened first P cost budget result left w
+pub opened_ok : (first : MachineState) (P : MachineState → Type 0) (cost budget : ℕ) (answers : List ℕ) (result : Result (List ℕ) RunStop) (left : ℕ)
+    (w : MachineState) → result ≡ Ok answers → Opened first P cost budget result left w
     → P w × (left + cost ≡ budget)
 opened_ok first P cost budget answers result left w is opened = (elim opened as (λ result left w opened. result ≡ Ok answers → P w × (left + cost ≡ budget)) [
   | Opens others left w holds sum ↦ λ e. (holds, sum)
   | Halts w untouched short ↦ λ e. absurd (cc e)
 ]) is
 
-pub opened_short : (first : MachineState) (P : MachineState → Type 0) (cost budget : ℕ) (Left : RunStop → ℕ → MachineState → Type 0) (stop : RunStop) (result : Result (List ℕ) RunStop) (left : ℕ) (w : MachineState)
+pub opened_short : (first : MachineState) (P : MachineState → Type 0) (cost budget : ℕ) (Left : RunStop → ℕ → MachineState → Type 0) (stop : RunStop)
+    (result : Result (List ℕ) RunStop) (left : ℕ) (w : MachineState)
     → ((w : MachineState) → Untouched first w → budget < cost → Left Budget 0 w) → result ≡ Err stop → Opened first P cost budget result left w → Left stop left w
 opened_short first P cost budget Left stop result left w halted is opened = (elim opened as (λ result left w opened. result ≡ Err stop → Left stop left w) [
   | Opens others left w holds sum ↦ λ e. absurd (cc e)
@@ -104,15 +109,18 @@ opened_short first P cost budget Left stop result left w halted is opened = (eli
     same_end x y e = cc
 
 module _ (tells : Type 0) (first : MachineState) where
-  pub ask_none : (P : MachineState → Type 0) (budget : ℕ) (old : MachineState) (result : Result (List ℕ) RunStop) (left : ℕ) (last : MachineState) → P old → Asks (Allows tells) own_entries [] budget old result left last
+  pub ask_none : (P : MachineState → Type 0) (budget : ℕ) (old : MachineState) (result : Result (List ℕ) RunStop) (left : ℕ) (last : MachineState) → P old →
+      Asks (Allows tells) own_entries [] budget old result left last
       → Opened first P 0 budget result left last
   ask_none P budget old result left last holds asks =
       let end = none_asked (Allows tells) own_entries budget old result left last asks in
       subst (λ (r : Result (List ℕ) RunStop). Opened first P 0 budget r left last) (sym end.result_is)
       (Opens [] left last (subst P (sym end.last_is) holds) (omega (arith, end.left_is)))
 
-  pub ask_more : (P Q : MachineState → Type 0) (cost more : ℕ) (request : Request) (rest : List Request) (budget : ℕ) (old : MachineState) (result : Result (List ℕ) RunStop) (left : ℕ) (last : MachineState)
-      → ((result : Result ℕ RunStop) (left : ℕ) (last : MachineState) → Performs (Allows tells) own_entries request.action request.given budget old result left last → RunTo first P cost budget result left last)
+  pub ask_more : (P Q : MachineState → Type 0) (cost more : ℕ) (request : Request) (rest : List Request) (budget : ℕ) (old : MachineState)
+      (result : Result (List ℕ) RunStop) (left : ℕ) (last : MachineState)
+      → ((result : Result ℕ RunStop) (left : ℕ) (last : MachineState) → Performs (Allows tells) own_entries request.action request.given budget old result left
+      last → RunTo first P cost budget result left last)
       → ((budget : ℕ) (mid : MachineState) (result : Result (List ℕ) RunStop) (left : ℕ) (last : MachineState) → P mid → Asks (Allows tells) own_entries rest budget mid result left last
       → Opened first Q more budget result left last)
       → Asks (Allows tells) own_entries (request ∷ rest) budget old result left last → Opened first Q (cost + more) budget result left last
@@ -140,7 +148,8 @@ abbrev pub begun_device : Operation → DeviceState → DeviceState
 begun_device operation old = record (given_up old) { operation = Some operation; offset = 0; id = 0; status = Success }
 
 module _ (tells : Type 0) (own : OwnProgramsRun tells) (first : MachineState) where
-  pub begin_run : (action : Action) (operation : Operation) → begun_by action ≡ Some operation → takes_value action ≡ false → tells_value action ≡ false → ((m : MachineState) → given_to action 0 m ≡ m)
+  pub begin_run : (action : Action) (operation : Operation) → begun_by action ≡ Some operation → takes_value action ≡ false → tells_value action ≡ false →
+      ((m : MachineState) → given_to action 0 m ≡ m)
       → steps_of own_entries action ≡ 1 → action_of (code_of action) ≡ Some action → (budget : ℕ) (result : Result ℕ RunStop) (left : ℕ) (last : MachineState)
       → Performs (Allows tells) own_entries action 0 budget first result left last → RunTo first (λ w. w ≡ on_device first (begun_device operation first.device)) 1 budget result left last
   begin_run action operation begun takes shows same one code budget result left last run =
@@ -158,13 +167,16 @@ module _ (tells : Type 0) (own : OwnProgramsRun tells) (first : MachineState) wh
       differ : {P : Type 0} → true ≡ false → P
       differ e = absurd (cc)
 
-  pub offset_run : (device : DeviceState) → IsStill device → Untouched first (on_device first device) → (budget : ℕ) (old : MachineState) (result : Result ℕ RunStop) (left : ℕ) (last : MachineState) → old ≡ on_device first device
+  pub offset_run : (device : DeviceState) → IsStill device → Untouched first (on_device first device) →
+      (budget : ℕ) (old : MachineState) (result : Result ℕ RunStop) (left : ℕ) (last : MachineState) → old ≡ on_device first device
       → Performs (Allows tells) own_entries SetRecordOffset 0 budget old result left last → RunTo first (λ w. w ≡ on_device first (record device { value = 0; offset = 0 })) 2 budget result left last
   offset_run device still untouched budget old result left last old_is run =
-      elim (own SetRecordOffset 0 budget (on_device first device) result left last (subst (λ (m : MachineState). Performs (Allows tells) own_entries SetRecordOffset 0 budget m result left last) old_is run))
+      elim (own SetRecordOffset 0 budget (on_device first device) result left last
+      (subst (λ (m : MachineState). Performs (Allows tells) own_entries SetRecordOffset 0 budget m result left last) old_is run))
       as (λ result left last made. RunTo first (λ w. w ≡ on_device first (record device { value = 0; offset = 0 })) 2 budget result left last) [
         | IsMade left last acted spent ↦
-            let becomes = sets_offset tells (record device { value = 0 }) first.memory.range last.device last.memory.range (record { no_read = still.no_read; no_change = still.no_change }) acted.acts in
+            let becomes = sets_offset tells (record device { value = 0 }) first.memory.range last.device last.memory.range
+            (record { no_read = still.no_read; no_change = still.no_change }) acted.acts in
             Reaches _ left last (acted_is tells (on_device first (record device { value = 0 })) 0x4 last (record device { value = 0; offset = 0 }) acted becomes.new_is becomes.range_is)
             (ap (λ (n : ℕ). left + n) (sym steps-offset) ∙ spent)
         | StopsAtOnce none ↦ Falls (on_device first device) untouched (omega (arith, none))
@@ -172,11 +184,13 @@ module _ (tells : Type 0) (own : OwnProgramsRun tells) (first : MachineState) wh
         | StopsBehind last few told acted ↦ absurd (cc)
       ]
 
-  pub identifier_run : (id : ℕ) → id < 2 ^ 64 → (device : DeviceState) → IsStill device → Untouched first (on_device first device) → (budget : ℕ) (old : MachineState) (result : Result ℕ RunStop) (left : ℕ) (last : MachineState)
+  pub identifier_run : (id : ℕ) → id < 2 ^ 64 → (device : DeviceState) → IsStill device → Untouched first (on_device first device) →
+      (budget : ℕ) (old : MachineState) (result : Result ℕ RunStop) (left : ℕ) (last : MachineState)
       → old ≡ on_device first device → Performs (Allows tells) own_entries SetRecordIdentifier id budget old result left last
       → RunTo first (λ w. w ≡ on_device first (record device { value = id; id = id })) 2 budget result left last
   identifier_run id small device still untouched budget old result left last old_is run =
-      elim (own SetRecordIdentifier id budget (on_device first device) result left last (subst (λ (m : MachineState). Performs (Allows tells) own_entries SetRecordIdentifier id budget m result left last) old_is run))
+      elim (own SetRecordIdentifier id budget (on_device first device) result left last
+      (subst (λ (m : MachineState). Performs (Allows tells) own_entries SetRecordIdentifier id budget m result left last) old_is run))
       as (λ result left last made. RunTo first (λ w. w ≡ on_device first (record device { value = id; id = id })) 2 budget result left last) [
         | IsMade left last acted spent ↦
             let low : id % 2 ^ 64 ≡ id = omega arith in
@@ -190,10 +204,13 @@ module _ (tells : Type 0) (own : OwnProgramsRun tells) (first : MachineState) wh
       ]
 
   -- an execution is started
-  pub execute_run : (device : DeviceState) → IsStill device → Untouched first (on_device first device) → (budget : ℕ) (old : MachineState) (result : Result ℕ RunStop) (left : ℕ) (last : MachineState) → old ≡ on_device first device
-      → Performs (Allows tells) own_entries ExecuteOperation 0 budget old result left last → RunTo first (λ w. Starts tells device first.memory.range w.device × (w ≡ on_device first w.device)) 1 budget result left last
+  pub execute_run : (device : DeviceState) → IsStill device → Untouched first (on_device first device) →
+      (budget : ℕ) (old : MachineState) (result : Result ℕ RunStop) (left : ℕ) (last : MachineState) → old ≡ on_device first device
+      → Performs (Allows tells) own_entries ExecuteOperation 0 budget old result left last →
+      RunTo first (λ w. Starts tells device first.memory.range w.device × (w ≡ on_device first w.device)) 1 budget result left last
   execute_run device still untouched budget old result left last old_is run =
-      elim (own ExecuteOperation 0 budget (on_device first device) result left last (subst (λ (m : MachineState). Performs (Allows tells) own_entries ExecuteOperation 0 budget m result left last) old_is run))
+      elim (own ExecuteOperation 0 budget (on_device first device) result left last
+      (subst (λ (m : MachineState). Performs (Allows tells) own_entries ExecuteOperation 0 budget m result left last) old_is run))
       as (λ result left last made. RunTo first (λ w. Starts tells device first.memory.range w.device × (w ≡ on_device first w.device)) 1 budget result left last) [
         | IsMade left last acted spent ↦
             let starts = executes tells device first.memory.range last.device last.memory.range still acted.acts in
@@ -238,19 +255,22 @@ zero_answered w budget result left last answer is checked = (elim checked as (λ
   | HasNoSteps last either short ↦ λ e. absurd (no_stop answer Budget e)
 ]) is
 
-not_busy : (tells : Type 0) → OwnProgramsRun tells → (timings : Option (ℕ × ℕ)) (w : MachineState) → IsStill w.device → (budget busy left : ℕ) (mid : MachineState) → Busy (Allows tells) own_entries timings budget w busy left mid
+not_busy : (tells : Type 0) → OwnProgramsRun tells → (timings : Option (ℕ × ℕ)) (w : MachineState) → IsStill w.device →
+    (budget busy left : ℕ) (mid : MachineState) → Busy (Allows tells) own_entries timings budget w busy left mid
     → NotBusy w budget busy left mid
 not_busy tells own timings w still budget busy left mid NotYet = record { none = refl; left_is = refl; mid_is = refl }
 not_busy tells own timings w still budget busy left mid (Again before asked from answer behind next new earlier run more pause) =
     let is = not_busy tells own timings w still budget before asked from earlier in
-    let here = check_still tells own w still asked (Ok answer) behind next (subst (λ (m : MachineState). Performs (Allows tells) own_entries CheckBusyStatus 0 asked m (Ok answer) behind next) is.mid_is run) in
+    let here = check_still tells own w still asked (Ok answer) behind next
+    (subst (λ (m : MachineState). Performs (Allows tells) own_entries CheckBusyStatus 0 asked m (Ok answer) behind next) is.mid_is run) in
     absurd (more (zero_answered w asked (Ok answer) behind next answer refl here).0)
 
 pub data StillWaited (w : MachineState) (budget : ℕ) : Result (Unit {0}) ClientError → ℕ → MachineState → Type 0 where
   IsAtOnce : (left : ℕ) (last : MachineState) → last ≡ with_value 0 w → left + 2 ≡ budget → StillWaited w budget (Ok tt) left last
   IsShort : (last : MachineState) → (last ≡ w) ⊎ (last ≡ with_value 0 w) → budget < 2 → StillWaited w budget (Err (Stopped Budget)) 0 last
 
-pub wait_still : (tells : Type 0) → OwnProgramsRun tells → (timings : Option (ℕ × ℕ)) (w : MachineState) → IsStill w.device → (budget : ℕ) (result : Result (Unit {0}) ClientError) (left : ℕ) (last : MachineState)
+pub wait_still : (tells : Type 0) → OwnProgramsRun tells → (timings : Option (ℕ × ℕ)) (w : MachineState) → IsStill w.device →
+    (budget : ℕ) (result : Result (Unit {0}) ClientError) (left : ℕ) (last : MachineState)
     → Waits (Allows tells) own_entries timings budget w result left last → StillWaited w budget result left last
 wait_still tells own timings w still budget result left last waits =
     elim waits as (λ result left last waits. StillWaited w budget result left last) [
@@ -270,7 +290,8 @@ wait_still tells own timings w still budget result left last waits =
         (subst (λ (n : ℕ). Performs (Allows tells) own_entries CheckBusyStatus 0 n w result left last) is.left_is
         (subst (λ (m : MachineState). Performs (Allows tells) own_entries CheckBusyStatus 0 asked m result left last) is.mid_is run))
 
-    short : (stop : RunStop) (left : ℕ) (last : MachineState) (result : Result ℕ RunStop) → result ≡ Err stop → StillChecked w budget result left last → StillWaited w budget (Err (Stopped stop)) left last
+    short : (stop : RunStop) (left : ℕ) (last : MachineState) (result : Result ℕ RunStop) → result ≡ Err stop → StillChecked w budget result left last →
+        StillWaited w budget (Err (Stopped stop)) left last
     short stop left last result is checked = (elim checked as (λ result left last checked. result ≡ Err stop → StillWaited w budget (Err (Stopped stop)) left last) [
       | AnswersZero left spent ↦ λ e. absurd (no_answer 0 stop e)
       | HasNoSteps last either few ↦ λ e. subst (λ (s : RunStop). StillWaited w budget (Err (Stopped s)) 0 last) (same_stop Budget stop e) (IsShort last either few)
@@ -291,7 +312,8 @@ pub data SequenceEnds (tells : Type 0) (timings : Option (ℕ × ℕ)) (requests
   HasNotTold : (answers : List ℕ) (asked : ℕ) (mid : MachineState) (waited : ℕ) (idle told : MachineState) → Asks (Allows tells) own_entries requests budget first (Ok answers) asked mid
       → Waits (Allows tells) own_entries timings asked mid (Ok tt) waited idle → waited < 2 → (told ≡ idle) ⊎ (told ≡ with_value (status_in idle) idle)
       → SequenceEnds tells timings requests budget first (Err (Stopped Budget)) 0 (ended_from told)
-  HasNotWaited : (answers : List ℕ) (asked : ℕ) (mid : MachineState) (error : ClientError) (left : ℕ) (told : MachineState) → Asks (Allows tells) own_entries requests budget first (Ok answers) asked mid
+  HasNotWaited : (answers : List ℕ) (asked : ℕ) (mid : MachineState) (error : ClientError) (left : ℕ) (told : MachineState) →
+      Asks (Allows tells) own_entries requests budget first (Ok answers) asked mid
       → Waits (Allows tells) own_entries timings asked mid (Err error) left told → SequenceEnds tells timings requests budget first (Err error) left (ended_from told)
   HasNotAsked : (stop : RunStop) (left : ℕ) (told : MachineState) → Asks (Allows tells) own_entries requests budget first (Err stop) left told
       → SequenceEnds tells timings requests budget first (Err (Stopped stop)) left (ended_from told)
@@ -318,7 +340,8 @@ module _ (tells : Type 0) (own : OwnProgramsRun tells) where
   ask_status idle budget result left last run = elim (own GetCommandStatus 0 budget idle result left last run) as (λ result left last made. StatusAsked idle budget result left last) [
     | IsMade left last acted spent ↦
         subst (λ (m : MachineState). StatusAsked idle budget (Ok (answer_of GetCommandStatus 0 m.device.value)) left m) (sym (became last acted))
-        (subst (λ (n : ℕ). StatusAsked idle budget (Ok n) left (with_value (status_in idle) idle)) (sym (low_status idle.device.status)) (Tells left (ap (λ (n : ℕ). left + n) (sym steps-status) ∙ spent)))
+        (subst (λ (n : ℕ). StatusAsked idle budget (Ok n) left (with_value (status_in idle) idle)) (sym (low_status idle.device.status))
+        (Tells left (ap (λ (n : ℕ). left + n) (sym steps-status) ∙ spent)))
     | StopsAtOnce none ↦ TellsNot idle (inl refl) (omega (arith, none))
     | StopsBefore few took ↦ absurd (cc)
     | StopsBehind last few told acted ↦ TellsNot last (inr (became last acted)) (omega (arith, few))
@@ -345,30 +368,36 @@ module _ (tells : Type 0) (own : OwnProgramsRun tells) where
       (subst (λ (m : MachineState). SequenceEnds tells timings requests budget first sequence.outcome left m) (sym ended.1) (until_status sequence.outcome left sequence.told sequence.until_status))
     where
       told_by : (answers : List ℕ) (asked : ℕ) (mid : MachineState) (waited : ℕ) (idle : MachineState) (run : Result ℕ RunStop) (left : ℕ) (last : MachineState) (status : ℕ) → run ≡ Ok status
-          → Asks (Allows tells) own_entries requests budget first (Ok answers) asked mid → Waits (Allows tells) own_entries timings asked mid (Ok tt) waited idle → StatusAsked idle waited run left last
+          → Asks (Allows tells) own_entries requests budget first (Ok answers) asked mid → Waits (Allows tells) own_entries timings asked mid (Ok tt) waited
+          idle → StatusAsked idle waited run left last
           → SequenceEnds tells timings requests budget first (judged status) left (ended_from last)
-      told_by answers asked mid waited idle run left last status is asks waits says = (elim says as (λ run left last says. run ≡ Ok status → SequenceEnds tells timings requests budget first (judged status) left (ended_from last)) [
-        | Tells left spent ↦ λ e.
-            subst (λ (n : ℕ). SequenceEnds tells timings requests budget first (judged n) left (ended_from (with_value (status_in idle) idle))) (same_number (status_in idle) status e)
-            (HasTold answers asked mid waited idle left asks waits spent)
-        | TellsNot last either short ↦ λ e. absurd (no_stop status Budget e)
-      ]) is
+      told_by answers asked mid waited idle run left last status is asks waits says =
+          (elim says as (λ run left last says. run ≡ Ok status → SequenceEnds tells timings requests budget first (judged status) left (ended_from last)) [
+            | Tells left spent ↦ λ e.
+                subst (λ (n : ℕ). SequenceEnds tells timings requests budget first (judged n) left (ended_from (with_value (status_in idle) idle))) (same_number (status_in idle) status e)
+                (HasTold answers asked mid waited idle left asks waits spent)
+            | TellsNot last either short ↦ λ e. absurd (no_stop status Budget e)
+          ]) is
 
       not_told_by : (answers : List ℕ) (asked : ℕ) (mid : MachineState) (waited : ℕ) (idle : MachineState) (run : Result ℕ RunStop) (left : ℕ) (last : MachineState) (stop : RunStop) → run ≡ Err stop
-          → Asks (Allows tells) own_entries requests budget first (Ok answers) asked mid → Waits (Allows tells) own_entries timings asked mid (Ok tt) waited idle → StatusAsked idle waited run left last
+          → Asks (Allows tells) own_entries requests budget first (Ok answers) asked mid → Waits (Allows tells) own_entries timings asked mid (Ok tt) waited
+          idle → StatusAsked idle waited run left last
           → SequenceEnds tells timings requests budget first (Err (Stopped stop)) left (ended_from last)
-      not_told_by answers asked mid waited idle run left last stop is asks waits says = (elim says as (λ run left last says. run ≡ Err stop → SequenceEnds tells timings requests budget first (Err (Stopped stop)) left (ended_from last)) [
-        | Tells left spent ↦ λ e. absurd (no_answer (status_in idle) stop e)
-        | TellsNot last either short ↦ λ e.
-            subst (λ (s : RunStop). SequenceEnds tells timings requests budget first (Err (Stopped s)) 0 (ended_from last)) (same_stop Budget stop e)
-            (HasNotTold answers asked mid waited idle last asks waits short either)
-      ]) is
+      not_told_by answers asked mid waited idle run left last stop is asks waits says =
+          (elim says as (λ run left last says. run ≡ Err stop → SequenceEnds tells timings requests budget first (Err (Stopped stop)) left (ended_from last)) [
+            | Tells left spent ↦ λ e. absurd (no_answer (status_in idle) stop e)
+            | TellsNot last either short ↦ λ e.
+                subst (λ (s : RunStop). SequenceEnds tells timings requests budget first (Err (Stopped s)) 0 (ended_from last)) (same_stop Budget stop e)
+                (HasNotTold answers asked mid waited idle last asks waits short either)
+          ]) is
 
       until_status : (outcome : Result (Unit {0}) ClientError) (left : ℕ) (told : MachineState) → UntilStatus (Allows tells) own_entries timings requests budget first outcome left told
           → SequenceEnds tells timings requests budget first outcome left (ended_from told)
       until_status outcome left told until = elim until as (λ outcome left told until. SequenceEnds tells timings requests budget first outcome left (ended_from told)) [
         | NotAsked stop left told asks ↦ HasNotAsked stop left told asks
         | NotWaited answers asked mid error left told asks waits ↦ HasNotWaited answers asked mid error left told asks waits
-        | NotTold answers asked mid waited idle stop left told asks waits run ↦ not_told_by answers asked mid waited idle (Err stop) left told stop refl asks waits (ask_status idle waited (Err stop) left told run)
-        | IsTold answers asked mid waited idle status left told asks waits run ↦ told_by answers asked mid waited idle (Ok status) left told status refl asks waits (ask_status idle waited (Ok status) left told run)
+        | NotTold answers asked mid waited idle stop left told asks waits run ↦ not_told_by answers asked mid waited idle (Err stop) left told stop refl asks
+            waits (ask_status idle waited (Err stop) left told run)
+        | IsTold answers asked mid waited idle status left told asks waits run ↦ told_by answers asked mid waited idle (Ok status) left told status refl asks
+            waits (ask_status idle waited (Ok status) left told run)
       ]

@@ -44,7 +44,8 @@ use Rattle.erst_commands.specs.Attached.{own_client}
 use Rattle.erst_commands.specs.Changes.{OfFailed, OfNoSpace, OfNotFound, HoldsRecord, ChangeCommand, DummyLeaves, DummyCommand, IsPlayed, IsCut}
 use Rattle.erst_commands.proofs.MachineSteps.{on_device}
 use Rattle.erst_commands.proofs.LimitLemmas.{changes-most}
-use Rattle.erst_commands.proofs.SequenceLemmas.{Untouched, Opened, opened_weaker, opened_ok, opened_short, StillWaited, IsAtOnce, IsShort, wait_still, ended_from, status_in, HasTold, HasNotTold, HasNotWaited, HasNotAsked, sequence_ends}
+use Rattle.erst_commands.proofs.SequenceLemmas.{Untouched, Opened, opened_weaker, opened_ok, opened_short, StillWaited, IsAtOnce, IsShort, wait_still}
+use Rattle.erst_commands.proofs.SequenceLemmas.{ended_from, status_in, HasTold, HasNotTold, HasNotWaited, HasNotAsked, sequence_ends}
 use Rattle.erst_commands.proofs.OpenLemmas.{IsOn, offset_device, clearing_device, write_opens, dummy_opens, clear_opens}
 use Rattle.erst_commands.proofs.WayLemmas.{Leads, write_leads, some_changes}
 use Rattle.erst_commands.proofs.ChangeLemmas.{Base, StartedChange, UnstartedChange, UnstartedAnswer, RefusedBy, FailedBy, copies_first, change_command}
@@ -64,11 +65,13 @@ judged_number status = judged (number_of status)
 
 -- What the store's start leaves
 
-base_started : (tells : Type 0) (told : tells) (first start : MachineState) (store : StoreView) (result : Result (Unit {0}) StoreError) → OnlyStarts tells (abandoned first.device.store) store result → start.device.store ≡ store
+base_started : (tells : Type 0) (told : tells) (first start : MachineState) (store : StoreView) (result : Result (Unit {0}) StoreError) →
+    OnlyStarts tells (abandoned first.device.store) store result → start.device.store ≡ store
     → start.device.cursor ≡ first.device.cursor → start ≡ on_device first start.device → Base first start
 base_started tells told first start store result starts there cursor elsewhere = record {
   kept = subst (λ (s : StoreView). KeepsMap first.device.store s) (sym there) (starts.kept told);
-  equivalent = subst (λ (s : StoreView). DividesAlike first.device.store s) (sym there) (record { layout = starts.equivalent.layout; size = starts.equivalent.size; sector_size = starts.equivalent.sector_size });
+  equivalent = subst (λ (s : StoreView). DividesAlike first.device.store s) (sym there)
+      (record { layout = starts.equivalent.layout; size = starts.equivalent.size; sector_size = starts.equivalent.sector_size });
   few = subst (λ (s : StoreView). s.flash.steps ≤ first.device.store.flash.steps + 1) (sym there) (starts.few told);
   never_falls = subst (λ (s : StoreView). first.device.store.flash.faults ≤ s.flash.faults) (sym there) (faults_rise first.device.store.flash.faults store.flash.faults result starts.cause);
   cursor = cursor;
@@ -100,7 +103,8 @@ copies_reserved : (id : ℕ) (store : StoreView) → is_reserved id ≡ true →
 copies_reserved id store reserved = rw reserved refl
 
 -- a start that answered an error that the map gives
-refused_start : (first start : MachineState) (store : StoreView) (id : ℕ) → is_reserved id ≡ false → start.device.store ≡ store → store.in_doubt ≡ false → store.flash.faults ≡ first.device.store.flash.faults
+refused_start : (first start : MachineState) (store : StoreView) (id : ℕ) → is_reserved id ≡ false → start.device.store ≡ store → store.in_doubt ≡ false →
+    store.flash.faults ≡ first.device.store.flash.faults
     → store.flash.steps ≡ first.device.store.flash.steps + copies_of (abandoned first.device.store)
     → (start.device.store.flash.steps ≡ first.device.store.flash.steps + copies_first id first.device.store) × (start.device.store.flash.faults ≡ first.device.store.flash.faults)
     × (is_reserved id ≡ false → start.device.store.in_doubt ≡ false) × (is_reserved id ≡ true → start.device.store ≡ abandoned first.device.store)
@@ -143,10 +147,12 @@ clear-few state id = by_refusal (refusal_of state.device.store.layout (Clear id)
 
 -- A start that came to this, from a device that is otherwise this one
 
-module _ (tells : Type 0) (told : tells) (first start : MachineState) (id : ℕ) (command : Command) (device : DeviceState) (no_read : device.reading ≡ None) (cursor : device.cursor ≡ first.device.cursor)
+module _ (tells : Type 0) (told : tells) (first start : MachineState) (id : ℕ) (command : Command) (device : DeviceState) (no_read : device.reading ≡ None)
+    (cursor : device.cursor ≡ first.device.cursor)
     (elsewhere : start ≡ on_device first start.device) where
   -- the store has begun what leads to the map that the command makes
-  taken_start : (store : StoreView) (more : ℕ) → is_reserved id ≡ false → OnlyStarts tells (abandoned first.device.store) store (Ok tt) → start.device ≡ record device { status = statuses.Success; store = store }
+  taken_start : (store : StoreView) (more : ℕ) → is_reserved id ≡ false → OnlyStarts tells (abandoned first.device.store) store (Ok tt) →
+      start.device ≡ record device { status = statuses.Success; store = store }
       → refusal_of first.device.store.layout command (records_of first) ≡ None → changes_of first.device.store.layout command (records_of first) ≡ suc more
       → Leads (suc more) first.device.store.layout store.pending (records_of first) (made_by command (records_of first)) → StartedChange first start id command
   taken_start store more usable leaves is taken all leads =
@@ -164,7 +170,8 @@ module _ (tells : Type 0) (told : tells) (first start : MachineState) (id : ℕ)
         status = ap (λ (d : DeviceState). d.status) is;
         more = more;
         all = all;
-        leads = subst (λ (m : Stored). Leads (suc more) start.device.store.layout start.device.store.pending (stored start.device.store) m) (sym (after-done first.device.store.layout command (records_of first) taken))
+        leads = subst (λ (m : Stored). Leads (suc more) start.device.store.layout start.device.store.pending (stored start.device.store) m)
+            (sym (after-done first.device.store.layout command (records_of first) taken))
             (subst (λ (m : Stored). Leads (suc more) start.device.store.layout start.device.store.pending m (made_by command (records_of first))) (sym same)
             (subst (λ (p : Pending). Leads (suc more) start.device.store.layout p (records_of first) (made_by command (records_of first))) (sym (ap (λ (s : StoreView). s.pending) there))
             (subst (λ (l : Layout). Leads (suc more) l store.pending (records_of first) (made_by command (records_of first))) (sym base.equivalent.layout) leads)));
@@ -205,9 +212,11 @@ draft range bytes id holds =
     ap (λ (b : Bool). cond {A = Option (ℕ × ℕ)} b None (cond (nat_lt (number_at range 20 4) 128) None (cond (nat_lt (length range) (0 + number_at range 20 4)) None
     (cond (is_reserved (number_at range 96 8)) None (Some (number_at range 20 4, number_at range 96 8)))))) (le-ltb (length range) 128 (omega (arith, holds.least, holds.within)))
     ∙ ap (λ (n : ℕ). cond {A = Option (ℕ × ℕ)} (nat_lt n 128) None (cond (nat_lt (length range) (0 + n)) None (cond (is_reserved (number_at range 96 8)) None (Some (n, number_at range 96 8))))) size
-    ∙ ap (λ (b : Bool). cond {A = Option (ℕ × ℕ)} b None (cond (nat_lt (length range) (0 + length bytes)) None (cond (is_reserved (number_at range 96 8)) None (Some (length bytes, number_at range 96 8)))))
+    ∙ ap (λ (b : Bool). cond {A = Option (ℕ × ℕ)} b None (cond (nat_lt (length range) (0 + length bytes)) None (cond (is_reserved (number_at range 96 8)) None
+    (Some (length bytes, number_at range 96 8)))))
     (le-ltb (length bytes) 128 holds.least)
-    ∙ ap (λ (b : Bool). cond {A = Option (ℕ × ℕ)} b None (cond (is_reserved (number_at range 96 8)) None (Some (length bytes, number_at range 96 8)))) (le-ltb (length range) (0 + length bytes) (omega (arith, holds.within)))
+    ∙ ap (λ (b : Bool). cond {A = Option (ℕ × ℕ)} b None (cond (is_reserved (number_at range 96 8)) None (Some (length bytes, number_at range 96 8))))
+    (le-ltb (length range) (0 + length bytes) (omega (arith, holds.within)))
     ∙ ap (λ (n : ℕ). cond {A = Option (ℕ × ℕ)} (is_reserved n) None (Some (length bytes, n))) name
 
 draft_usable : (range bytes : List ℕ) (id : ℕ) → HoldsRecord range id bytes → is_reserved id ≡ false → draft_at 0 range ≡ Some (length bytes, id)
@@ -225,7 +234,8 @@ unfolding refusal_of
 clear_reserved layout id map reserved = rw reserved refl
 
 module _ (tells : Type 0) (told : tells) (first start : MachineState) (id : ℕ) (bytes : List ℕ) (elsewhere : start ≡ on_device first start.device) where
-  write_ok : (store : StoreView) → is_reserved id ≡ false → StartedWrite tells (abandoned first.device.store) store id bytes (Ok tt) → start.device ≡ record (offset_device operations.Write first.device) { status = statuses.Success; store = store }
+  write_ok : (store : StoreView) → is_reserved id ≡ false → StartedWrite tells (abandoned first.device.store) store id bytes (Ok tt) →
+      start.device ≡ record (offset_device operations.Write first.device) { status = statuses.Success; store = store }
       → StartedChange first start id (Write id bytes)
   write_ok store usable begun is =
       let answer = begun.answer told in
@@ -235,11 +245,14 @@ module _ (tells : Type 0) (told : tells) (first start : MachineState) (id : ℕ)
       taken_start tells told first start id (Write id bytes) (offset_device operations.Write first.device) refl refl elsewhere store
       (changes_of first.device.store.layout (Write id bytes) (records_of first) - 1) usable begun.leaves is taken all
       (subst (λ (n : ℕ). Leads n first.device.store.layout store.pending (records_of first) (made_by (Write id bytes) (records_of first))) all
-      (subst (λ (p : Pending). Leads (changes_of first.device.store.layout (Write id bytes) (records_of first)) first.device.store.layout p (records_of first) (made_by (Write id bytes) (records_of first)))
+      (subst (λ (p : Pending). Leads (changes_of first.device.store.layout (Write id bytes) (records_of first)) first.device.store.layout p (records_of first)
+      (made_by (Write id bytes) (records_of first)))
       (sym answer.1) (write_leads first.device.store.layout id bytes (slots_for store (length bytes)) (records_of first) taken)))
 
-  write_error : (store : StoreView) (error : StoreError) → is_reserved id ≡ false → RefusesWrite (abandoned first.device.store) store id bytes error → HasFaultsOf {T = Unit {0}} first.device.store.flash.faults store.flash.faults (Err error)
-      → ByFault {T = Unit {0}} (Err error) (IsInDoubt store) (IsReady store) → EndsCopies {T = Unit {0}} (abandoned first.device.store) store (Err error) → start.device.store ≡ store → start.device.status ≡ status_of error
+  write_error : (store : StoreView) (error : StoreError) → is_reserved id ≡ false → RefusesWrite (abandoned first.device.store) store id bytes error →
+      HasFaultsOf {T = Unit {0}} first.device.store.flash.faults store.flash.faults (Err error)
+      → ByFault {T = Unit {0}} (Err error) (IsInDoubt store) (IsReady store) → EndsCopies {T = Unit {0}} (abandoned first.device.store) store (Err error) →
+      start.device.store ≡ store → start.device.status ≡ status_of error
       → UnstartedAnswer first start id (Write id bytes)
   write_error store (errors.NoSpace free) usable refuses cause doubt ended there status =
       let facts = refused_start first start store id usable there doubt.certain cause ended in
@@ -254,7 +267,8 @@ module _ (tells : Type 0) (told : tells) (first start : MachineState) (id : ℕ)
   write_error store (errors.Small need) usable refuses cause doubt ended there status = absurd refuses
 
   write_by : (store : StoreView) (result : Result (Unit {0}) StoreError) → is_reserved id ≡ false → StartedWrite tells (abandoned first.device.store) store id bytes result
-      → start.device ≡ record (offset_device operations.Write first.device) { status = status_after result; store = store } → (StartedChange first start id (Write id bytes)) ⊎ (UnstartedChange first start id (Write id bytes))
+      → start.device ≡ record (offset_device operations.Write first.device) { status = status_after result; store = store } →
+      (StartedChange first start id (Write id bytes)) ⊎ (UnstartedChange first start id (Write id bytes))
   write_by store (Ok done) usable begun is = inl (write_ok store usable begun is)
   write_by store (Err error) usable begun is =
       let leaves = begun.leaves in
@@ -271,7 +285,8 @@ module _ (tells : Type 0) (told : tells) (first start : MachineState) (id : ℕ)
     where
       by_reserved : (size number : ℕ) (store : StoreView) (result : Result (Unit {0}) StoreError) (b : Bool) → is_reserved id ≡ b → draft_at 0 first.memory.range ≡ Some (size, number)
           → StartedWrite tells (abandoned first.device.store) store number (part first.memory.range 0 size) result
-          → start.device ≡ record (offset_device operations.Write first.device) { status = status_after result; store = store } → (StartedChange first start id (Write id bytes)) ⊎ (UnstartedChange first start id (Write id bytes))
+          → start.device ≡ record (offset_device operations.Write first.device) { status = status_after result; store = store } →
+          (StartedChange first start id (Write id bytes)) ⊎ (UnstartedChange first start id (Write id bytes))
       by_reserved size number store result true reserved found begun is = absurd (none-some (size, number) (sym (draft_reserved first.memory.range bytes id holds reserved) ∙ found))
       by_reserved size number store result false usable found begun is =
           let same : (size, number) ≡ (length bytes, id) = same_Some _ _ (sym found ∙ draft_usable first.memory.range bytes id holds usable) in
@@ -313,7 +328,8 @@ module _ (tells : Type 0) (own : OwnProgramsRun tells) (told : tells) (first : M
 -- A clear
 
 module _ (tells : Type 0) (told : tells) (first start : MachineState) (id : ℕ) (elsewhere : start ≡ on_device first start.device) where
-  clear_ok : (store : StoreView) → is_reserved id ≡ false → StartedClear tells (abandoned first.device.store) store id (Ok tt) → start.device ≡ record (clearing_device first.device id) { status = statuses.Success; store = store }
+  clear_ok : (store : StoreView) → is_reserved id ≡ false → StartedClear tells (abandoned first.device.store) store id (Ok tt) →
+      start.device ≡ record (clearing_device first.device id) { status = statuses.Success; store = store }
       → StartedChange first start id (Clear id)
   clear_ok store usable begun is =
       let answer = begun.answer told in
@@ -321,8 +337,10 @@ module _ (tells : Type 0) (told : tells) (first start : MachineState) (id : ℕ)
       (changes_of-clear first.device.store.layout id (records_of first) answer.0)
       (subst (λ (p : Pending). Leads 1 first.device.store.layout p (records_of first) (made_by (Clear id) (records_of first))) (sym answer.1) (tt, inr refl, (refl, refl)))
 
-  clear_error : (store : StoreView) (error : StoreError) → is_reserved id ≡ false → RefusesClear (abandoned first.device.store) store id error → HasFaultsOf {T = Unit {0}} first.device.store.flash.faults store.flash.faults (Err error)
-      → ByFault {T = Unit {0}} (Err error) (IsInDoubt store) (IsReady store) → EndsCopies {T = Unit {0}} (abandoned first.device.store) store (Err error) → start.device.store ≡ store → start.device.status ≡ status_of error
+  clear_error : (store : StoreView) (error : StoreError) → is_reserved id ≡ false → RefusesClear (abandoned first.device.store) store id error →
+      HasFaultsOf {T = Unit {0}} first.device.store.flash.faults store.flash.faults (Err error)
+      → ByFault {T = Unit {0}} (Err error) (IsInDoubt store) (IsReady store) → EndsCopies {T = Unit {0}} (abandoned first.device.store) store (Err error) →
+      start.device.store ≡ store → start.device.status ≡ status_of error
       → UnstartedAnswer first start id (Clear id)
   clear_error store (errors.NoSpace free) usable refuses cause doubt ended there status = absurd refuses
   clear_error store (errors.LastGeneration number) usable refuses cause doubt ended there status = absurd refuses
@@ -335,7 +353,8 @@ module _ (tells : Type 0) (told : tells) (first start : MachineState) (id : ℕ)
   clear_error store (errors.Small need) usable refuses cause doubt ended there status = absurd refuses
 
   clear_by : (store : StoreView) (result : Result (Unit {0}) StoreError) → is_reserved id ≡ false → StartedClear tells (abandoned first.device.store) store id result
-      → start.device ≡ record (clearing_device first.device id) { status = status_after result; store = store } → (StartedChange first start id (Clear id)) ⊎ (UnstartedChange first start id (Clear id))
+      → start.device ≡ record (clearing_device first.device id) { status = status_after result; store = store } → (StartedChange first start id (Clear id)) ⊎
+      (UnstartedChange first start id (Clear id))
   clear_by store (Ok done) usable begun is = inl (clear_ok store usable begun is)
   clear_by store (Err error) usable begun is =
       let leaves = begun.leaves in
@@ -389,7 +408,8 @@ module _ (tells : Type 0) (own : OwnProgramsRun tells) (first : MachineState) wh
   dummy_started : (w : MachineState) → Starts tells (offset_device operations.Dummy first.device) first.memory.range w.device → w ≡ on_device first w.device → IsDummy w
   dummy_started w starts elsewhere = elsewhere ∙ ap (λ (d : DeviceState). on_device first d) (by_case w.device starts)
     where
-      by_case : (device : DeviceState) → Starts tells (offset_device operations.Dummy first.device) first.memory.range device → device ≡ record (offset_device operations.Dummy first.device) { status = statuses.Success }
+      by_case : (device : DeviceState) → Starts tells (offset_device operations.Dummy first.device) first.memory.range device →
+          device ≡ record (offset_device operations.Dummy first.device) { status = statuses.Success }
       by_case device starts = elim starts as (λ device starts. device ≡ record (offset_device operations.Dummy first.device) { status = statuses.Success }) [
         | NoneBegun none ↦ absurd (cc none)
         | WritesDummy begun ↦ refl
@@ -404,9 +424,11 @@ module _ (tells : Type 0) (own : OwnProgramsRun tells) (first : MachineState) wh
         | Clears store result begun usable call ↦ absurd (cc begun)
       ]
 
-  dummy_on : (budget : ℕ) (result : Result (List ℕ) RunStop) (left : ℕ) (last : MachineState) → Asks (Allows tells) own_entries dummy_requests budget first result left last → Opened first IsDummy 4 budget result left last
+  dummy_on : (budget : ℕ) (result : Result (List ℕ) RunStop) (left : ℕ) (last : MachineState) → Asks (Allows tells) own_entries dummy_requests budget first
+      result left last → Opened first IsDummy 4 budget result left last
   dummy_on budget result left last asks =
-      opened_weaker first (IsOn tells first (offset_device operations.Dummy first.device)) IsDummy 4 budget result left last (λ w on. dummy_started w on.0 on.1) (dummy_opens tells own first budget result left last asks)
+      opened_weaker first (IsOn tells first (offset_device operations.Dummy first.device)) IsDummy 4 budget result left last (λ w on. dummy_started w on.0 on.1)
+      (dummy_opens tells own first budget result left last asks)
 
   dummy_end : (value : ℕ) (w : MachineState) → IsDummy w → DummyLeaves first (ended_from (with_value value w))
   dummy_end value w is = subst (λ (m : MachineState). DummyLeaves first (ended_from (with_value value m))) (sym is) (record { store = refl; cursor = refl; elsewhere = refl })
@@ -437,18 +459,23 @@ module _ (tells : Type 0) (own : OwnProgramsRun tells) (first : MachineState) wh
     | IsShort idle which few ↦ λ e. absurd (cc e)
   ]) is
 
-  dummy_short : (start : MachineState) (is_dummy : IsDummy start) (asked budget : ℕ) (error : ClientError) (result : Result (Unit {0}) ClientError) (left : ℕ) (last : MachineState) → asked + 4 ≡ budget → result ≡ Err error
+  dummy_short : (start : MachineState) (is_dummy : IsDummy start) (asked budget : ℕ) (error : ClientError) (result : Result (Unit {0}) ClientError) (left : ℕ)
+      (last : MachineState) → asked + 4 ≡ budget → result ≡ Err error
       → StillWaited start asked result left last → DummyCommand first (ended_from last) dummy_requests budget (Err error) left
-  dummy_short start is_dummy asked budget error result left last opened is ends = (elim ends as (λ result left last ends. result ≡ Err error → DummyCommand first (ended_from last) dummy_requests budget (Err error) left) [
-    | IsAtOnce left last at sum ↦ λ e. absurd (cc e)
-    | IsShort last which few ↦ λ e.
-        subst (λ (r : Result (Unit {0}) ClientError). DummyCommand first (ended_from last) dummy_requests budget r 0) e (IsCut (dummy_of start last 0 is_dummy which) (omega (arith, opened, few, needs-dummy)))
-  ]) is
+  dummy_short start is_dummy asked budget error result left last opened is ends =
+      (elim ends as (λ result left last ends. result ≡ Err error → DummyCommand first (ended_from last) dummy_requests budget (Err error) left) [
+        | IsAtOnce left last at sum ↦ λ e. absurd (cc e)
+        | IsShort last which few ↦ λ e.
+            subst (λ (r : Result (Unit {0}) ClientError). DummyCommand first (ended_from last) dummy_requests budget r 0) e
+            (IsCut (dummy_of start last 0 is_dummy which) (omega (arith, opened, few, needs-dummy)))
+      ]) is
 
-  pub dummy_command : (budget : ℕ) (result : Result (Unit {0}) ClientError) (left : ℕ) (last : MachineState) → Sequence (Allows tells) own_entries (own_client first).timings dummy_requests budget first result left last
+  pub dummy_command : (budget : ℕ) (result : Result (Unit {0}) ClientError) (left : ℕ) (last : MachineState) → Sequence (Allows tells) own_entries
+      (own_client first).timings dummy_requests budget first result left last
       → DummyCommand first last dummy_requests budget result left
   dummy_command budget result left last sequence =
-      elim (sequence_ends tells own (own_client first).timings dummy_requests budget first result left last sequence) as (λ result left last ends. DummyCommand first last dummy_requests budget result left) [
+      elim (sequence_ends tells own (own_client first).timings dummy_requests budget first result left last sequence) as
+      (λ result left last ends. DummyCommand first last dummy_requests budget result left) [
         | HasTold answers asked mid waited idle left asks waits spent ↦
             let opened = opened_ok first IsDummy 4 budget answers (Ok answers) asked mid refl (dummy_on budget (Ok answers) asked mid asks) in
             let at = dummy_waited mid asked budget (Ok tt) waited idle refl (wait_still tells own (own_client first).timings mid (dummy_still mid opened.0) asked (Ok tt) waited idle waits) in
@@ -459,9 +486,11 @@ module _ (tells : Type 0) (own : OwnProgramsRun tells) (first : MachineState) wh
             IsCut (not_told mid idle other opened.0 at.0 either) (omega (arith, opened.1, at.1, short, needs-dummy))
         | HasNotWaited answers asked mid error left other asks waits ↦
             let opened = opened_ok first IsDummy 4 budget answers (Ok answers) asked mid refl (dummy_on budget (Ok answers) asked mid asks) in
-            dummy_short mid opened.0 asked budget error (Err error) left other opened.1 refl (wait_still tells own (own_client first).timings mid (dummy_still mid opened.0) asked (Err error) left other waits)
+            dummy_short mid opened.0 asked budget error (Err error) left other opened.1 refl (wait_still tells own (own_client first).timings mid
+            (dummy_still mid opened.0) asked (Err error) left other waits)
         | HasNotAsked stop left other asks ↦
-            opened_short first IsDummy 4 budget (λ stop left w. DummyCommand first (ended_from w) dummy_requests budget (Err (Stopped stop)) left) stop (Err stop) left other (dummy_halted budget) refl (dummy_on budget (Err stop) left other asks)
+            opened_short first IsDummy 4 budget (λ stop left w. DummyCommand first (ended_from w) dummy_requests budget (Err (Stopped stop)) left) stop
+            (Err stop) left other (dummy_halted budget) refl (dummy_on budget (Err stop) left other asks)
       ]
     where
       told : (mid idle : MachineState) (asked waited left : ℕ) → IsDummy mid → asked + 4 ≡ budget → idle ≡ with_value 0 mid → waited + 2 ≡ asked → left + 2 ≡ waited

@@ -71,7 +71,8 @@ status_by (Some TooLong) = statuses.Failed
 pub no_fault : (T : Type 0) (old new : StoreView) → FailsNothing old new → HasFaultsOf {T = T} old.flash.faults new.flash.faults (Err errors.Flash) → ⊥
 no_fault T old new quiet cause = quiet cause.1
 
-pub is_ready : {T : Type 0} (old new : StoreView) (result : Result T StoreError) → FailsNothing old new → HasFaultsOf old.flash.faults new.flash.faults result → ByFault result (IsInDoubt new) (IsReady new) → IsReady new
+pub is_ready : {T : Type 0} (old new : StoreView) (result : Result T StoreError) → FailsNothing old new → HasFaultsOf old.flash.faults new.flash.faults result →
+    ByFault result (IsInDoubt new) (IsReady new) → IsReady new
 is_ready old new (Ok done) quiet cause doubt = doubt
 is_ready old new (Err (errors.NoSpace free)) quiet cause doubt = doubt
 is_ready old new (Err (errors.LastGeneration id)) quiet cause doubt = doubt
@@ -84,14 +85,16 @@ is_ready old new (Err (errors.Small need)) quiet cause doubt = doubt
 pub no_copies : (new : StoreView) → new.in_doubt ≡ false → copies_of new ≡ 0
 no_copies new certain = ap (λ (b : Bool). if b then copies_in new else 0) certain
 
-looked_by : {T : Type 0} (old new : StoreView) (result : Result T StoreError) (pending : Pending) → FailsNothing old new → KeepsMap old new → EndsCopies old new result → new.in_doubt ≡ false → unplaced new.pending ≡ pending
+looked_by : {T : Type 0} (old new : StoreView) (result : Result T StoreError) (pending : Pending) → FailsNothing old new → KeepsMap old new →
+    EndsCopies old new result → new.in_doubt ≡ false → unplaced new.pending ≡ pending
     → DividesAlike old new → HasFaultsOf old.flash.faults new.flash.faults result → store_outline new ≡ record (looked (store_outline old)) { pending = pending }
 looked_by old new result pending quiet kept ended certain is equivalent cause =
     same_outline (store_outline new) (record (looked (store_outline old)) { pending = pending }) equivalent.layout (kept_map old new kept equivalent)
     (without_fault (new.flash.steps ≡ old.flash.steps + copies_of old) old.flash.faults new.flash.faults result cause ended quiet) certain is (no_copies new certain)
 
 -- a call that only looks
-pub only_looked : {T : Type 0} (tells : Type 0) → tells → (old new : StoreView) (result : Result T StoreError) → FailsNothing old new → OnlyLooks tells old new result → store_outline new ≡ looked (store_outline old)
+pub only_looked : {T : Type 0} (tells : Type 0) → tells → (old new : StoreView) (result : Result T StoreError) → FailsNothing old new →
+    OnlyLooks tells old new result → store_outline new ≡ looked (store_outline old)
 only_looked tells told old new result quiet looks =
     let ready = is_ready old new result quiet looks.cause looks.doubt in
     looked_by old new result Idle quiet (looks.kept told) (looks.ended told) ready.certain (ap unplaced ready.idle) looks.equivalent looks.cause
@@ -122,7 +125,8 @@ map_unplaced layout Idle records = refl
 map_unplaced layout (Writing id bytes slots replaces made) records = refl
 map_unplaced layout (Clearing id) records = refl
 
-placed_cond : (b : Bool) (id : ℕ) (bytes slots : List ℕ) (replaces : Bool) (made : ℕ) → unplaced (if b then Idle else Writing id bytes slots replaces made) ≡ unplaced (if b then Idle else Writing id bytes [] replaces made)
+placed_cond : (b : Bool) (id : ℕ) (bytes slots : List ℕ) (replaces : Bool) (made : ℕ) → unplaced (if b then Idle else Writing id bytes slots replaces made)
+    ≡ unplaced (if b then Idle else Writing id bytes [] replaces made)
 placed_cond true id bytes slots replaces made = refl
 placed_cond false id bytes slots replaces made = refl
 
@@ -161,7 +165,8 @@ has_changed tells told old new (Ok last) quiet step =
     let pending : unplaced new.pending ≡ unplaced (pending_after old.layout (unplaced old.pending)) = ap unplaced step.stepped.1 ∙ pending_unplaced old.layout old.pending in
     record {
       answer = ap (λ (b : Bool). Ok b) (last_is new.pending last step.stepped.2 step.stepped.3 ∙ ap is_idle pending);
-      outline = same_outline (store_outline new) (changed (store_outline old)) step.equivalent.layout (step.answer told ∙ map_unplaced old.layout old.pending (stored old)) step.one step.stepped.0 pending (no_copies new step.stepped.0);
+      outline = same_outline (store_outline new) (changed (store_outline old)) step.equivalent.layout (step.answer told ∙ map_unplaced old.layout old.pending
+          (stored old)) step.one step.stepped.0 pending (no_copies new step.stepped.0);
     }
 has_changed tells told old new (Err error) quiet step = absurd (step_error old new error step.error quiet step.cause)
 
@@ -170,7 +175,8 @@ pub record HasStarted (refusal : Option Refusal) (pending : Pending) (old new : 
   pub status : status_after result ≡ status_by refusal
   pub outline : store_outline new ≡ started refusal pending (store_outline old)
 
-started_ok : (tells : Type 0) → tells → (old new : StoreView) (result : Result (Unit {0}) StoreError) (refusal : Option Refusal) (pending : Pending) → result ≡ Ok tt → refusal ≡ None → FailsNothing old new → new.in_doubt ≡ false → unplaced new.pending ≡ pending
+started_ok : (tells : Type 0) → tells → (old new : StoreView) (result : Result (Unit {0}) StoreError) (refusal : Option Refusal) (pending : Pending) →
+    result ≡ Ok tt → refusal ≡ None → FailsNothing old new → new.in_doubt ≡ false → unplaced new.pending ≡ pending
     → OnlyStarts tells old new result → HasStarted refusal pending old new result
 started_ok tells told old new result refusal pending ok none quiet certain is leaves = record {
   status = ap status_after ok ∙ sym (ap status_by none);
@@ -178,7 +184,8 @@ started_ok tells told old new result refusal pending ok none quiet certain is le
       ∙ sym (ap (λ (r : Option Refusal). started r pending (store_outline old)) none);
 }
 
-started_refused : (tells : Type 0) → tells → (old new : StoreView) (error : StoreError) (refusal : Option Refusal) (why : Refusal) (pending : Pending) → refusal ≡ Some why → status_of error ≡ status_by (Some why) → FailsNothing old new → IsReady new
+started_refused : (tells : Type 0) → tells → (old new : StoreView) (error : StoreError) (refusal : Option Refusal) (why : Refusal) (pending : Pending) →
+    refusal ≡ Some why → status_of error ≡ status_by (Some why) → FailsNothing old new → IsReady new
     → OnlyStarts tells old new (Err error) → HasStarted refusal pending old new (Err error)
 started_refused tells told old new error refusal why pending is status quiet ready leaves = record {
   status = status ∙ sym (ap status_by is);
@@ -189,7 +196,8 @@ started_refused tells told old new error refusal why pending is status quiet rea
 abbrev pub write_pending : Layout → Stored → ℕ → List ℕ → Pending
 write_pending layout records id bytes = Writing id bytes [] (is_some (get records id)) 0
 
-pub write_started : (tells : Type 0) → tells → (old new : StoreView) (id : ℕ) (bytes : List ℕ) (result : Result (Unit {0}) StoreError) → FailsNothing old new → StartedWrite tells old new id bytes result
+pub write_started : (tells : Type 0) → tells → (old new : StoreView) (id : ℕ) (bytes : List ℕ) (result : Result (Unit {0}) StoreError) → FailsNothing old new →
+    StartedWrite tells old new id bytes result
     → HasStarted (refusal_of old.layout (Write id bytes) (stored old)) (write_pending old.layout (stored old) id bytes) old new result
 write_started tells told old new id bytes (Ok done) quiet start =
     started_ok tells told old new (Ok done) _ _ refl (start.answer told).0 quiet start.leaves.doubt (ap unplaced (start.answer told).1) start.leaves

@@ -13,7 +13,8 @@ use Rattle.erst_client.specs.declared.errors.ClientError.TheVariants.{Hardware, 
 use Rattle.erst_client.specs.declared.requests.Request.{Request}
 use Rattle.erst_client.specs.Timings.{enough_steps}
 use Rattle.erst_client.specs.Requests.{Asks}
-use Rattle.erst_client.specs.Commands.{ClientState, Writes, IsNoRecord, IsNotPut, IsAsked, CopiesOut, IsFilled, IsNotFilled, copied, Reads, IsNotRead, HasNoLength, IsNotCopied, IsCopied, Counts, Names}
+use Rattle.erst_client.specs.Commands.{ClientState, Writes, IsNoRecord, IsNotPut, IsAsked, CopiesOut, IsFilled, IsNotFilled, copied, Reads, IsNotRead}
+use Rattle.erst_client.specs.Commands.{HasNoLength, IsNotCopied, IsCopied, Counts, Names}
 use Rattle.erst_client.proofs.RefusalLemmas.{is_own, write_own, copy_own}
 use Rattle.erst_client.specs.Sequences.{Waits, write_requests, read_requests, clear_requests, dummy_requests, judged, Sequence}
 use Rattle.erst_device.specs.declared.registers.Operation.TheVariants as operations
@@ -63,7 +64,8 @@ EndsFrom first w = StartsFinite first.device.store.layout w.device
 module _ (tells : Type 0) (own : OwnProgramsRun tells) (first : MachineState) (budget : ℕ) (enough : HasSteps first.device.store.layout budget) where
   sequence_through : (P : MachineState → Type 0) (cost : ℕ) (requests : List Request) → cost ≤ 6 → ((w : MachineState) → P w → EndsFrom first w)
       → ((result : Result (List ℕ) RunStop) (left : ℕ) (last : MachineState) → Asks (Allows tells) own_entries requests budget first result left last → Opened first P cost budget result left last)
-      → (result : Result (Unit {0}) ClientError) (left : ℕ) (last : MachineState) → Sequence (Allows tells) own_entries (own_client first).timings requests budget first result left last → GoesThrough result
+      → (result : Result (Unit {0}) ClientError) (left : ℕ) (last : MachineState) → Sequence (Allows tells) own_entries (own_client first).timings requests
+      budget first result left last → GoesThrough result
   sequence_through P cost requests few ends opens result left last sequence =
       elim (sequence_ends tells own (own_client first).timings requests budget first result left last sequence) as (λ result left last ends. GoesThrough result) [
         | HasTold answers asked mid waited idle left asks waits spent ↦ judged_through idle.device.status
@@ -85,7 +87,8 @@ module _ (tells : Type 0) (own : OwnProgramsRun tells) (first : MachineState) (b
       waited_through : (asked : ℕ) (result : Result (Unit {0}) ClientError) (mid : MachineState) (left : ℕ) (last : MachineState) → (started : EndsFrom first mid) → budget ≤ asked + 6
           → Waits (Allows tells) own_entries (own_client first).timings asked mid result left last → WaitsThrough started.n asked result left
       waited_through asked result mid left last started spent waits =
-          waits_through tells own first.device.store.layout (10 * most_changes first.device.store.layout, 10 * (first.device.store.layout.per_slot + 4)) started.n mid started.finite (omega (arith, started.few))
+          waits_through tells own first.device.store.layout (10 * most_changes first.device.store.layout, 10 * (first.device.store.layout.per_slot + 4))
+          started.n mid started.finite (omega (arith, started.few))
           asked (omega (arith, spent, enough, started.few)) result left last waits
 
   module _ (long : length first.memory.range ≡ reach_in first.device) where
@@ -94,29 +97,38 @@ module _ (tells : Type 0) (own : OwnProgramsRun tells) (first : MachineState) (b
         subst (λ (l : Layout). StartsFinite l w.device) same
         (starts_finite tells device first.memory.range still (long ∙ ap (λ (l : Layout). reach_of (room_of l)) (sym same)) w.device on.0)
 
-    pub write_through : (result : Result (Unit {0}) ClientError) (left : ℕ) (last : MachineState) → Sequence (Allows tells) own_entries (own_client first).timings write_requests budget first result left last → GoesThrough result
+    pub write_through : (result : Result (Unit {0}) ClientError) (left : ℕ) (last : MachineState) →
+        Sequence (Allows tells) own_entries (own_client first).timings write_requests budget first result left last → GoesThrough result
     write_through =
-        sequence_through (IsOn tells first (offset_device operations.Write first.device)) 4 write_requests (omega arith) (ends_on (offset_device operations.Write first.device) (record { no_read = refl; no_change = refl }) refl)
+        sequence_through (IsOn tells first (offset_device operations.Write first.device)) 4 write_requests (omega arith)
+        (ends_on (offset_device operations.Write first.device) (record { no_read = refl; no_change = refl }) refl)
         (write_opens tells own first budget)
 
-    pub dummy_through : (result : Result (Unit {0}) ClientError) (left : ℕ) (last : MachineState) → Sequence (Allows tells) own_entries (own_client first).timings dummy_requests budget first result left last → GoesThrough result
+    pub dummy_through : (result : Result (Unit {0}) ClientError) (left : ℕ) (last : MachineState) →
+        Sequence (Allows tells) own_entries (own_client first).timings dummy_requests budget first result left last → GoesThrough result
     dummy_through =
-        sequence_through (IsOn tells first (offset_device operations.Dummy first.device)) 4 dummy_requests (omega arith) (ends_on (offset_device operations.Dummy first.device) (record { no_read = refl; no_change = refl }) refl)
+        sequence_through (IsOn tells first (offset_device operations.Dummy first.device)) 4 dummy_requests (omega arith)
+        (ends_on (offset_device operations.Dummy first.device) (record { no_read = refl; no_change = refl }) refl)
         (dummy_opens tells own first budget)
 
-    pub clear_through : (id : ℕ) → id < 2 ^ 64 → (result : Result (Unit {0}) ClientError) (left : ℕ) (last : MachineState) → Sequence (Allows tells) own_entries (own_client first).timings (clear_requests id) budget first result left last
+    pub clear_through : (id : ℕ) → id < 2 ^ 64 → (result : Result (Unit {0}) ClientError) (left : ℕ) (last : MachineState) → Sequence (Allows tells) own_entries
+        (own_client first).timings (clear_requests id) budget first result left last
         → GoesThrough result
     clear_through id small =
-        sequence_through (IsOn tells first (clearing_device first.device id)) 4 (clear_requests id) (omega arith) (ends_on (clearing_device first.device id) (record { no_read = refl; no_change = refl }) refl) (clear_opens tells own first id small budget)
+        sequence_through (IsOn tells first (clearing_device first.device id)) 4 (clear_requests id) (omega arith)
+        (ends_on (clearing_device first.device id) (record { no_read = refl; no_change = refl }) refl) (clear_opens tells own first id small budget)
 
-    pub read_through : (id : ℕ) → id < 2 ^ 64 → (result : Result (Unit {0}) ClientError) (left : ℕ) (last : MachineState) → Sequence (Allows tells) own_entries (own_client first).timings (read_requests id) budget first result left last
+    pub read_through : (id : ℕ) → id < 2 ^ 64 → (result : Result (Unit {0}) ClientError) (left : ℕ) (last : MachineState) → Sequence (Allows tells) own_entries
+        (own_client first).timings (read_requests id) budget first result left last
         → GoesThrough result
     read_through id small =
-        sequence_through (IsOn tells first (reading_device first.device id)) 6 (read_requests id) (omega arith) (ends_on (reading_device first.device id) (record { no_read = refl; no_change = refl }) refl) (read_opens tells own first id small budget)
+        sequence_through (IsOn tells first (reading_device first.device id)) 6 (read_requests id) (omega arith)
+        (ends_on (reading_device first.device id) (record { no_read = refl; no_change = refl }) refl) (read_opens tells own first id small budget)
 
 -- Count and next
 
-one_answers : (tells : Type 0) (action : Action) (given budget : ℕ) (first : MachineState) (result : Result ℕ RunStop) (left : ℕ) (last : MachineState) → 2 ≤ budget → OwnRun tells action given budget first result left last
+one_answers : (tells : Type 0) (action : Action) (given budget : ℕ) (first : MachineState) (result : Result ℕ RunStop) (left : ℕ) (last : MachineState) →
+    2 ≤ budget → OwnRun tells action given budget first result left last
     → (answer : ℕ) × (result ≡ Ok answer)
 one_answers tells action given budget first result left last enough run = elim run as (λ result left last run. (answer : ℕ) × (result ≡ Ok answer)) [
   | IsMade left last acted spent ↦ (_, refl)
@@ -142,31 +154,42 @@ next_answered answer id is = subst (λ (a : Result ℕ RunStop). GoesThrough (ne
 module _ (tells : Type 0) (own : OwnProgramsRun tells) (first : MachineState) (budget : ℕ) (enough : enough_steps (own_client first).timings ≤ budget) where
   pub count_through : (result : Result ℕ ClientError) (left : ℕ) (last : MachineState) → Counts (Allows tells) own_entries budget first result left last → GoesThrough result
   count_through result left last asked =
-      let answered = one_answers tells GetRecordCount 0 budget first asked.answer left last (omega (arith, enough-most first, enough)) (own GetRecordCount 0 budget first asked.answer left last asked.asks) in
+      let answered = one_answers tells GetRecordCount 0 budget first asked.answer left last (omega (arith, enough-most first, enough))
+      (own GetRecordCount 0 budget first asked.answer left last asked.asks) in
       subst (λ (r : Result ℕ ClientError). GoesThrough r) (sym asked.result_is) (count_answered asked.answer answered.0 answered.1)
 
   pub next_through : (result : Result (Option ℕ) ClientError) (left : ℕ) (last : MachineState) → Names (Allows tells) own_entries budget first result left last → GoesThrough result
   next_through result left last asked =
-      let answered = one_answers tells GetRecordIdentifier 0 budget first asked.answer left last (omega (arith, enough-most first, enough)) (own GetRecordIdentifier 0 budget first asked.answer left last asked.asks) in
+      let answered = one_answers tells GetRecordIdentifier 0 budget first asked.answer left last (omega (arith, enough-most first, enough))
+      (own GetRecordIdentifier 0 budget first asked.answer left last asked.asks) in
       subst (λ (r : Result (Option ℕ) ClientError). GoesThrough r) (sym asked.result_is) (next_answered asked.answer answered.0 answered.1)
 
 -- A client's write and read
 
 pub own_through : {T : Type 0} (error : ClientError) → is_own error ≡ true → GoesThrough {T = T} (Err error)
-own_through {T} error own = record { not_stopped = λ stop e. absurd (cc (sym own ∙ ap is_own (same error (Stopped stop) e))); in_time = λ waited e. absurd (cc (sym own ∙ ap is_own (same error (Late waited) e))) }
+own_through {T} error own = record {
+  not_stopped = λ stop e. absurd (cc (sym own ∙ ap is_own (same error (Stopped stop) e)));
+  in_time =
+      λ waited e. absurd (cc (sym own ∙ ap is_own (same error (Late waited) e)));
+}
   where
     same : (x y : ClientError) → ◌≡◌ {A = Result T ClientError} (Err x) (Err y) → x ≡ y
     same x y e = cc
 
 module _ (tells : Type 0) where
-  copied_through : (address : ℕ) (before after : List ℕ) (old : MachineState) (answer : Result (Unit {0}) ClientError) (new : MachineState) (len : ℕ) → CopiesOut (Allows tells) address before after old answer new → GoesThrough (copied answer len)
+  copied_through : (address : ℕ) (before after : List ℕ) (old : MachineState) (answer : Result (Unit {0}) ClientError) (new : MachineState) (len : ℕ) →
+      CopiesOut (Allows tells) address before after old answer new → GoesThrough (copied answer len)
   copied_through address before after old answer new len copies = elim copies as (λ answer new copies. GoesThrough (copied answer len)) [
     | IsFilled new allowed ↦ through_ok len
     | IsNotFilled fault new allowed ↦ through_range fault
   ]
 
 error_through : (error : ClientError) → GoesThrough {T = Unit {0}} (Err error) → GoesThrough {T = ℕ} (Err error)
-error_through error is = record { not_stopped = λ stop e. is.not_stopped stop (ap (λ (x : ClientError). Err x) (same error (Stopped stop) e)); in_time = λ waited e. is.in_time waited (ap (λ (x : ClientError). Err x) (same error (Late waited) e)) }
+error_through error is = record {
+  not_stopped = λ stop e. is.not_stopped stop (ap (λ (x : ClientError). Err x) (same error (Stopped stop) e));
+  in_time =
+      λ waited e. is.in_time waited (ap (λ (x : ClientError). Err x) (same error (Late waited) e));
+}
   where
     same : (x y : ClientError) → ◌≡◌ {A = Result ℕ ClientError} (Err x) (Err y) → x ≡ y
     same x y e = cc
@@ -212,10 +235,12 @@ module _ (tells : Type 0) (own : OwnProgramsRun tells) (first : MachineState) (m
       write_through tells own mid budget (subst (λ (l : Layout). HasSteps l budget) (sym same) (has_steps first budget enough)) is.sizes.range result left last
       (subst (λ (l : Layout). Sequence (Allows tells) own_entries (timings_of_layout l) write_requests budget mid result left last) (sym same) sequence)
 
-  pub client_write_through : (bytes : List ℕ) (result : Result (Unit {0}) ClientError) (left : ℕ) (last : MachineState) → Writes (Allows tells) (own_client first) bytes budget first result left last → GoesThrough result
+  pub client_write_through : (bytes : List ℕ) (result : Result (Unit {0}) ClientError) (left : ℕ) (last : MachineState) →
+      Writes (Allows tells) (own_client first) bytes budget first result left last → GoesThrough result
   client_write_through bytes result left last = writes_through tells (own_client first) bytes budget first machine result left last asked_through
 
-  pub client_read_through : (id : ℕ) → id < 2 ^ 64 → (out : List ℕ) (result : Result ℕ ClientError) (after : List ℕ) (left : ℕ) (last : MachineState) → Reads (Allows tells) (own_client first) id out budget first result after left last
+  pub client_read_through : (id : ℕ) → id < 2 ^ 64 → (out : List ℕ) (result : Result ℕ ClientError) (after : List ℕ) (left : ℕ) (last : MachineState) →
+      Reads (Allows tells) (own_client first) id out budget first result after left last
       → GoesThrough result
   client_read_through id small out result after left last =
       reads_through tells (own_client first) id out budget first result after left last (read_through tells own first budget (has_steps first budget enough) machine.sizes.range id small)

@@ -56,8 +56,10 @@ booted_records geometry flash machine boots =
     ap (λ (l : Layout). records_in l machine.device.store.flash.told.image) boots.booted.opened.layout
     ∙ Leaves-exit flash.told machine.device.store.flash.told (λ image. records_in (layout_of geometry) image ≡ records_in (layout_of geometry) flash.told.image) boots.kept
 
-pub boots_from_alike : (geometry : Geometry) (first second : FlashState) (one other : MachineState) → records_in (layout_of geometry) first.told.image ≡ records_in (layout_of geometry) second.told.image → first.steps ≡ second.steps
-    → second_copies geometry.slot_size geometry.slots first.told.image ≡ second_copies geometry.slot_size geometry.slots second.told.image → BootsFrom geometry first one → BootsFrom geometry second other → EquivalentMachines one other
+pub boots_from_alike : (geometry : Geometry) (first second : FlashState) (one other : MachineState) → records_in (layout_of geometry) first.told.image
+    ≡ records_in (layout_of geometry) second.told.image → first.steps ≡ second.steps
+    → second_copies geometry.slot_size geometry.slots first.told.image ≡ second_copies geometry.slot_size geometry.slots second.told.image →
+    BootsFrom geometry first one → BootsFrom geometry second other → EquivalentMachines one other
 boots_from_alike geometry first second one other records steps copies one_boots other_boots =
     boots_alike geometry one other one_boots.booted other_boots.booted (booted_records geometry first one one_boots ∙ records ∙ sym (booted_records geometry second other other_boots))
     (one_boots.steps ∙ ap (λ (n : ℕ). n + second_copies geometry.slot_size geometry.slots first.told.image) steps ∙ ap (λ (n : ℕ). second.steps + n) copies ∙ sym other_boots.steps)

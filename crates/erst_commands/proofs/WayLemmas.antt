@@ -1,5 +1,6 @@
 -- The changes of a write or clear that runs, one a check.
-use Rattle.std.proofs.Common.{◌≡◌, ◌≢◌, ◌⊎◌, ℕ, zero, suc, ◌+◌, ◌-◌, ◌*◌, ◌^◌, ◌<◌, ◌≤◌, Bool, true, false, cond, List, length, Option, Some, None, Result, Ok, Err, refl, sym, ap, subst, ◌∙◌, arith, inl, inr}
+use Rattle.std.proofs.Common.{◌≡◌, ◌≢◌, ◌⊎◌, ℕ, zero, suc, ◌+◌, ◌-◌, ◌*◌, ◌^◌, ◌<◌, ◌≤◌, Bool, true, false, cond, List, length, Option, Some, None, Result, Ok}
+use Rattle.std.proofs.Common.{Err, refl, sym, ap, subst, ◌∙◌, arith, inl, inr}
 use Rattle.std.specs.Prelude.{nat_eq, is_some, min}
 use Rattle.std.specs.FinMap.{get}
 use Rattle.std.proofs.lemmas.Bool.{cases_eq, cond-true, cond-false, eq-eqb, ne_eqb}
@@ -9,7 +10,8 @@ use Rattle.base_model.proofs.CrashLemmas.{Leaves-weaker, Leaves-then, Leaves-exi
 use Rattle.record_model.specs.Records.{Stored, parts_of}
 use Rattle.record_model.specs.RecordMap.{Write, made_by, refusal_of, changes_of, changes_of_parts}
 use Rattle.record_model.proofs.RefusalLemmas.{changes_of-new, changes_of-over}
-use Rattle.record_store.specs.Store.{StoreView, Pending, Idle, Writing, stored, records_of as records_in, map_after, pending_after, changes_before_gate, changes_in_all, IsBusy, KeepsOrMakes, DividesAlike}
+use Rattle.record_store.specs.Store.{StoreView, Pending, Idle, Writing, stored, records_of as records_in, map_after, pending_after, changes_before_gate}
+use Rattle.record_store.specs.Store.{changes_in_all, IsBusy, KeepsOrMakes, DividesAlike}
 use Rattle.record_store.specs.Answers.{HasFaultsOf}
 use Rattle.record_store.specs.declared.errors.StoreError.{StoreError}
 use Rattle.record_store.specs.declared.errors.StoreError.TheVariants.{Flash}
@@ -73,7 +75,8 @@ module _ (layout : Layout) (id : ℕ) (bytes slots : List ℕ) (replaces : Bool)
   ]
 
   last_pending : (n : ℕ) → n + 1 ≡ changes_in_all layout bytes replaces → pending_after layout (Writing id bytes slots replaces n) ≡ Idle
-  last_pending n is = cond-true {A = Pending} (nat_eq (n + 1) (changes_in_all layout bytes replaces)) Idle (Writing id bytes slots replaces (n + 1)) (eq-eqb (n + 1) (changes_in_all layout bytes replaces) is)
+  last_pending n is = cond-true {A = Pending} (nat_eq (n + 1) (changes_in_all layout bytes replaces)) Idle (Writing id bytes slots replaces (n + 1))
+      (eq-eqb (n + 1) (changes_in_all layout bytes replaces) is)
 
   next_pending : (n : ℕ) → n + 1 ≢ changes_in_all layout bytes replaces → pending_after layout (Writing id bytes slots replaces n) ≡ Writing id bytes slots replaces (n + 1)
   next_pending n apart =
@@ -170,7 +173,8 @@ pub data Moved (start : MachineState) (made : Stored) (all n left pauses : ℕ) 
   Broke : Broken start made all pauses new → new.device.value ≡ 0 → Moved start made all n left pauses new
 
 -- power lost in one more change
-way_crash : (old mid new : StoreView) (made : Stored) → DividesAlike old mid → KeepsOrMakes old mid made → (map_after old.layout mid.pending (stored mid) ≡ stored mid) ⊎ (map_after old.layout mid.pending (stored mid) ≡ made)
+way_crash : (old mid new : StoreView) (made : Stored) → DividesAlike old mid → KeepsOrMakes old mid made →
+    (map_after old.layout mid.pending (stored mid) ≡ stored mid) ⊎ (map_after old.layout mid.pending (stored mid) ≡ made)
     → KeepsOrMakes mid new (map_after mid.layout mid.pending (stored mid)) → KeepsOrMakes old new made
 way_crash old mid new made equivalent before step_map step =
     Leaves-then old.flash.told mid.flash.told new.flash.told (λ image. (records_in old.layout image ≡ stored old) ⊎ (records_in old.layout image ≡ made)) before
@@ -206,7 +210,8 @@ module _ (tells : Type 0) (told : tells) (start : MachineState) (made : Stored) 
       (subst (λ (m : Stored). Leads left start.device.store.layout (pending_after start.device.store.layout mid.device.store.pending) m made)
       (ap (λ (l : Layout). map_after l mid.device.store.pending (stored mid.device.store)) (sym layout) ∙ sym (step.answer told)) way.leads.2)
 
-  crashed : (store : StoreView) → KeepsOrMakes mid.device.store store (map_after mid.device.store.layout mid.device.store.pending (stored mid.device.store)) → KeepsOrMakes start.device.store store made
+  crashed : (store : StoreView) → KeepsOrMakes mid.device.store store (map_after mid.device.store.layout mid.device.store.pending (stored mid.device.store)) →
+      KeepsOrMakes start.device.store store made
   crashed store step = way_crash start.device.store mid.device.store store made way.equivalent way.crash way.leads.1 step
 
   went : (new : MachineState) (store : StoreView) (last : Bool) → Stepped tells mid.device.store store (Ok last) → new.device ≡ stepped (Ok last) store mid.device → new ≡ on_device mid new.device
@@ -229,7 +234,8 @@ module _ (tells : Type 0) (told : tells) (start : MachineState) (made : Stored) 
         elsewhere = there ∙ ap (λ (m : MachineState). on_device m new.device) way.elsewhere;
       }
 
-  value_moved : (k : ℕ) (store : StoreView) (last : Bool) → Leads k start.device.store.layout store.pending (stored store) made → (last ≡ true) ⊎ (last ≡ false × (store.pending ≡ Idle → ⊥)) → (last ≡ true → store.pending ≡ Idle)
+  value_moved : (k : ℕ) (store : StoreView) (last : Bool) → Leads k start.device.store.layout store.pending (stored store) made →
+      (last ≡ true) ⊎ (last ≡ false × (store.pending ≡ Idle → ⊥)) → (last ≡ true → store.pending ≡ Idle)
       → (stepped (Ok last) store mid.device).value ≡ value_of k
   value_moved zero store true leads ends idle = refl
   value_moved zero store false leads ends idle = elim ends [
@@ -239,7 +245,8 @@ module _ (tells : Type 0) (told : tells) (start : MachineState) (made : Stored) 
   value_moved (suc k) store true leads ends idle = absurd (idle_busy store.pending (idle refl) leads.0)
   value_moved (suc k) store false leads ends idle = refl
 
-  by_result : (new : MachineState) (store : StoreView) (result : Result Bool StoreError) → Stepped tells mid.device.store store result → new.device ≡ stepped result store mid.device → new ≡ on_device mid new.device
+  by_result : (new : MachineState) (store : StoreView) (result : Result Bool StoreError) → Stepped tells mid.device.store store result →
+      new.device ≡ stepped result store mid.device → new ≡ on_device mid new.device
       → Moved start made all n left pauses new
   by_result new store (Ok last) step is there =
       MovedOn (went new store last step is there)
@@ -273,7 +280,8 @@ module _ (tells : Type 0) (told : tells) (start : MachineState) (made : Stored) 
 -- The checks
 
 data BusyChecked (start : MachineState) (made : Stored) (all n left pauses : ℕ) (w : MachineState) (budget : ℕ) : Result ℕ RunStop → ℕ → MachineState → Type 0 where
-  Checks : (new : MachineState) (after : ℕ) → Moved start made all n left pauses new → after + 2 ≡ budget → BusyChecked start made all n left pauses w budget (Ok (answer_of CheckBusyStatus 0 new.device.value)) after new
+  Checks : (new : MachineState) (after : ℕ) → Moved start made all n left pauses new → after + 2 ≡ budget → BusyChecked start made all n left pauses w budget
+      (Ok (answer_of CheckBusyStatus 0 new.device.value)) after new
   ChecksNot : (new : MachineState) → Midway start made all pauses new → budget < 2 → BusyChecked start made all n left pauses w budget (Err Budget) 0 new
 
 of_moved : (start : MachineState) (made : Stored) (all n left pauses : ℕ) (new : MachineState) → Moved start made all n left pauses new → Midway start made all pauses new
@@ -282,7 +290,8 @@ of_moved start made all n left pauses new moved = elim moved [
   | Broke broken value ↦ broken.midway
 ]
 
-check_busy : (tells : Type 0) → OwnProgramsRun tells → tells → (start : MachineState) (made : Stored) (all n left pauses : ℕ) (w : MachineState) → OnWay start made all n (suc left) pauses w → (budget : ℕ) (result : Result ℕ RunStop)
+check_busy : (tells : Type 0) → OwnProgramsRun tells → tells → (start : MachineState) (made : Stored) (all n left pauses : ℕ) (w : MachineState) →
+    OnWay start made all n (suc left) pauses w → (budget : ℕ) (result : Result ℕ RunStop)
     (after : ℕ) (last : MachineState) → Performs (Allows tells) own_entries CheckBusyStatus 0 budget w result after last → BusyChecked start made all n left pauses w budget result after last
 check_busy tells own told start made all n left pauses w way budget result after last run =
     elim (own CheckBusyStatus 0 budget w result after last run) as (λ result after last run. BusyChecked start made all n left pauses w budget result after last) [
@@ -297,7 +306,8 @@ record CheckedOk (start : MachineState) (made : Stored) (all n left pauses budge
   answer_is : answer ≡ answer_of CheckBusyStatus 0 last.device.value
   spent : after + 2 ≡ budget
 
-checked_ok : (start : MachineState) (made : Stored) (all n left pauses : ℕ) (w : MachineState) (budget : ℕ) (result : Result ℕ RunStop) (after : ℕ) (last : MachineState) (answer : ℕ) → result ≡ Ok answer
+checked_ok : (start : MachineState) (made : Stored) (all n left pauses : ℕ) (w : MachineState) (budget : ℕ) (result : Result ℕ RunStop) (after : ℕ)
+    (last : MachineState) (answer : ℕ) → result ≡ Ok answer
     → BusyChecked start made all n left pauses w budget result after last → CheckedOk start made all n left pauses budget answer after last
 checked_ok start made all n left pauses w budget result after last answer is checked =
     (elim checked as (λ result after last checked. result ≡ Ok answer → CheckedOk start made all n left pauses budget answer after last) [
@@ -306,7 +316,8 @@ checked_ok start made all n left pauses w budget result after last answer is che
     ]) is
 
 -- a pause of a client that knows its timings
-pause_ok : (tells : Type 0) (known : ℕ × ℕ) (busy : ℕ) (old : MachineState) (result : Result (Unit {0}) ClientError) (new : MachineState) → result ≡ Ok tt → Pauses (Allows tells) (Some known) busy old result new
+pause_ok : (tells : Type 0) (known : ℕ × ℕ) (busy : ℕ) (old : MachineState) (result : Result (Unit {0}) ClientError) (new : MachineState) → result ≡ Ok tt →
+    Pauses (Allows tells) (Some known) busy old result new
     → new ≡ record old { waited = min (old.waited + 10) (2 ^ 64 - 1) }
 pause_ok tells known busy old result new is pauses = (elim pauses as (λ result new pauses. result ≡ Ok tt → new ≡ record old { waited = min (old.waited + 10) (2 ^ 64 - 1) }) [
   | Untimed none ↦ λ e. absurd (cc none)
@@ -325,7 +336,8 @@ pause_late tells known busy old result new error is pauses = (elim pauses as (λ
   | TooOften times same late ↦ λ e. subst (λ (k : ℕ × ℕ). k.0 < 10 * busy) (sym (same_known known times same)) late
 ]) is
 
-pause_way : (start : MachineState) (made : Stored) (all n left pauses : ℕ) (next new : MachineState) → new ≡ record next { waited = min (next.waited + 10) (2 ^ 64 - 1) } → OnWay start made all n left pauses next
+pause_way : (start : MachineState) (made : Stored) (all n left pauses : ℕ) (next new : MachineState) →
+    new ≡ record next { waited = min (next.waited + 10) (2 ^ 64 - 1) } → OnWay start made all n left pauses next
     → OnWay start made all n left (suc pauses) new
 pause_way start made all n left pauses next new is way =
     let device : new.device ≡ next.device = ap (λ (m : MachineState). m.device) is in
@@ -385,7 +397,8 @@ pub data WayWaited (start : MachineState) (made : Stored) (all budget : ℕ) : R
   WayBreaks : (busy left : ℕ) (last : MachineState) → Broken start made all busy last → busy + 1 ≤ all → left + 2 * (busy + 1) ≡ budget → WayWaited start made all budget (Ok tt) left last
   WayStops : (busy : ℕ) (last : MachineState) → Midway start made all busy last → busy + 1 ≤ all → budget < 2 * (busy + 1) → WayWaited start made all budget (Err (Stopped Budget)) 0 last
 
-module _ (tells : Type 0) (own : OwnProgramsRun tells) (told : tells) (start : MachineState) (made : Stored) (more : ℕ) (known : ℕ × ℕ) (begun : OnWay start made (suc more) 0 (suc more) 0 start) (enough : 10 * suc more ≤ known.0) where
+module _ (tells : Type 0) (own : OwnProgramsRun tells) (told : tells) (start : MachineState) (made : Stored) (more : ℕ) (known : ℕ × ℕ)
+    (begun : OnWay start made (suc more) 0 (suc more) 0 start) (enough : 10 * suc more ≤ known.0) where
   ended : (budget busy asked left : ℕ) (last : MachineState) (rest : ℕ) → busy + suc rest ≡ suc more → CheckedOk start made (suc more) busy rest busy asked 0 left last → asked + 2 * busy ≡ budget
       → WayWaited start made (suc more) budget (Ok tt) left last
   ended budget busy asked left last zero sum checked spent = elim checked.moved [
@@ -403,10 +416,12 @@ module _ (tells : Type 0) (own : OwnProgramsRun tells) (told : tells) (start : M
       (elim checked as (λ result left last checked. result ≡ Err stop → WayWaited start made (suc more) budget (Err (Stopped stop)) left last) [
         | Checks new after moved took ↦ λ e. absurd (no_answer _ stop e)
         | ChecksNot new midway short ↦ λ e.
-            subst (λ (s : RunStop). WayWaited start made (suc more) budget (Err (Stopped s)) 0 new) (same_stop Budget stop e) (WayStops busy new midway (omega (arith, sum)) (omega (arith, spent, short)))
+            subst (λ (s : RunStop). WayWaited start made (suc more) budget (Err (Stopped s)) 0 new) (same_stop Budget stop e)
+            (WayStops busy new midway (omega (arith, sum)) (omega (arith, spent, short)))
       ]) is
 
-  never_late : (busy answer after asked rest : ℕ) (next : MachineState) → CheckedOk start made (suc more) busy rest busy asked answer after next → (answer ≡ 0 → ⊥) → busy + suc rest ≡ suc more → known.0 < 10 * suc busy → ⊥
+  never_late : (busy answer after asked rest : ℕ) (next : MachineState) → CheckedOk start made (suc more) busy rest busy asked answer after next →
+      (answer ≡ 0 → ⊥) → busy + suc rest ≡ suc more → known.0 < 10 * suc busy → ⊥
   never_late busy answer after asked zero next checked some sum late = elim checked.moved [
     | MovedOn way value ↦ some (checked.answer_is ∙ ap (answer_of CheckBusyStatus 0) value)
     | Broke broken value ↦ some (checked.answer_is ∙ ap (answer_of CheckBusyStatus 0) value)
@@ -419,7 +434,8 @@ module _ (tells : Type 0) (own : OwnProgramsRun tells) (told : tells) (start : M
     | IsIdle busy asked mid left last earlier run ↦
         let so_far = went_on tells own told start made more known begun budget busy asked mid earlier in
         ended budget busy asked left last so_far.rest so_far.way.sum
-        (checked_ok start made (suc more) busy so_far.rest busy mid asked (Ok 0) left last 0 refl (check_busy tells own told start made (suc more) busy so_far.rest busy mid so_far.way asked (Ok 0) left last run)) so_far.spent
+        (checked_ok start made (suc more) busy so_far.rest busy mid asked (Ok 0) left last 0 refl (check_busy tells own told start made (suc more) busy
+        so_far.rest busy mid so_far.way asked (Ok 0) left last run)) so_far.spent
     | IsStopped busy asked mid stop left last earlier run ↦
         let so_far = went_on tells own told start made more known begun budget busy asked mid earlier in
         stopped budget busy asked so_far.rest left mid last stop (Err stop) refl so_far.way.sum so_far.spent

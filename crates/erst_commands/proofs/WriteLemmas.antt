@@ -53,7 +53,8 @@ module _ (tells : Type 0) (first : MachineState) (machine : IsMachine first) (by
     | IsPut between last allowed marks ↦ (refl, (mark_location between (Ok tt) last (start_location (Ok tt) between allowed).1 marks).1)
   ]
 
-pub written : (tells : Type 0) → OwnProgramsRun tells → tells → (bytes : List ℕ) (budget : ℕ) (first : MachineState) (result : Result (Unit {0}) ClientError) (left : ℕ) (last : MachineState) → IsMachine first
+pub written : (tells : Type 0) → OwnProgramsRun tells → tells → (bytes : List ℕ) (budget : ℕ) (first : MachineState) (result : Result (Unit {0}) ClientError)
+    (left : ℕ) (last : MachineState) → IsMachine first
     → Writes (Allows tells) (own_client first) bytes budget first result left last → WriteAnswered bytes budget first result left last
 written tells own told bytes budget first result left last machine writes = elim writes as (λ result left last writes. WriteAnswered bytes budget first result left last) [
   | refused error is ↦ IsNoRecord error is
@@ -63,6 +64,7 @@ written tells own told bytes budget first result left last machine writes = elim
       let there = (put_ok tells first machine bytes framed (Ok tt) mid puts).1 in
       let holds = holds-marked first.memory.range bytes (record { least = framed.least; size = framed.size; fits = omega (arith, framed.fits, machine.sizes.range) }) in
       IsWritten result left last is
-      (write_command tells own told (with_record (marked bytes) first) (id_of bytes) (marked bytes) holds (omega (arith, length-put_at bytes 108 (codes "ER") (omega (arith, framed.least)), framed.fits)) budget result left last
+      (write_command tells own told (with_record (marked bytes) first) (id_of bytes) (marked bytes) holds
+      (omega (arith, length-put_at bytes 108 (codes "ER") (omega (arith, framed.least)), framed.fits)) budget result left last
       (subst (λ (m : MachineState). Sequence (Allows tells) own_entries (own_client first).timings write_requests budget m result left last) there sequence))
 ]

@@ -61,7 +61,8 @@ pub record ChangeMade (first last : MachineState) (id : ℕ) (command : Command)
 pub data ChangeCommand (first last : MachineState) (id : ℕ) (command : Command) (requests : List Request) (budget : ℕ) : Result (Unit {0}) ClientError → ℕ → Type 0 where
   IsTaken : (pauses left : ℕ) → refusal_of first.device.store.layout command (records_of first) ≡ None → records_of last ≡ after first.device.store.layout command (records_of first)
       → ChangeMade first last id command pauses → left + steps_needed own_entries requests (pauses + 1) ≡ budget → ChangeCommand first last id command requests budget (Ok tt) left
-  IsRefused : (refusal : Refusal) (error : ClientError) (left : ℕ) → refusal_of first.device.store.layout command (records_of first) ≡ Some refusal → IsErrorOf refusal error → records_of last ≡ records_of first
+  IsRefused : (refusal : Refusal) (error : ClientError) (left : ℕ) → refusal_of first.device.store.layout command (records_of first) ≡ Some refusal →
+      IsErrorOf refusal error → records_of last ≡ records_of first
       → ChangeMade first last id command 0 → left + steps_needed own_entries requests 1 ≡ budget → ChangeCommand first last id command requests budget (Err error) left
   IsFailed : (pauses left : ℕ) → is_reserved id ≡ false → Rose first.device.store.flash.faults last.device.store.flash.faults
       → (records_of last ≡ records_of first) ⊎ (records_of last ≡ after first.device.store.layout command (records_of first)) → ChangeLeaves first last command pauses

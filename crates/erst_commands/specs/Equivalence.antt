@@ -48,7 +48,16 @@ DeviceOutline =
 
 abbrev pub device_outline : DeviceState → DeviceOutline
 device_outline device =
-    record { value = device.value; operation = device.operation; offset = device.offset; id = device.id; status = device.status; cursor = device.cursor; reading = device.reading; store = store_outline device.store }
+    record {
+      value = device.value;
+      operation = device.operation;
+      offset = device.offset;
+      id = device.id;
+      status = device.status;
+      cursor = device.cursor;
+      reading = device.reading;
+      store = store_outline device.store;
+    }
 
 -- the outline of a machine's device, with all else that is seen of the machine
 pub record MachineOutline : Type 0 where

@@ -35,7 +35,8 @@ pub data ReadMade (first last : MachineState) (id : ℕ) : Result (Unit {0}) Cli
 -- which refuses it, and the seventh the check that shows a record. One that is stopped before it has not come to EXECUTE_OPERATION, or has
 -- and is to show a record
 pub data ReadCommand (first last : MachineState) (id budget : ℕ) : Result (Unit {0}) ClientError → ℕ → Type 0 where
-  Answers : (result : Result (Unit {0}) ClientError) (left : ℕ) → ReadMade first last id result → left + steps_needed own_entries (read_requests id) 1 ≡ budget → ReadCommand first last id budget result left
+  Answers : (result : Result (Unit {0}) ClientError) (left : ℕ) → ReadMade first last id result → left + steps_needed own_entries (read_requests id) 1 ≡ budget
+      → ReadCommand first last id budget result left
   StopsBehind : (result : Result (Unit {0}) ClientError) → ReadMade first last id result → (if is_ok result then 7 else 6) ≤ budget
       → budget < steps_needed own_entries (read_requests id) 1 → ReadCommand first last id budget (Err (Stopped Budget)) 0
   StopsBefore : OnlyLooked (with_range last.memory.range first) last → last.memory.range ≡ first.memory.range

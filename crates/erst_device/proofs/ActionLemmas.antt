@@ -1,5 +1,6 @@
 -- From what the store answers to the cases of the actions.
-use Rattle.std.proofs.Common.{◌≡◌, ℕ, ◌+◌, ◌-◌, ◌^◌, ◌<◌, ◌≤◌, Bool, true, false, List, [], ◌++◌, length, take, drop, length-drop, Option, Some, None, Result, Ok, Err, refl, sym, ap, subst, ◌∙◌, arith}
+use Rattle.std.proofs.Common.{◌≡◌, ℕ, ◌+◌, ◌-◌, ◌^◌, ◌<◌, ◌≤◌, Bool, true, false, List, [], ◌++◌, length, take, drop, length-drop, Option, Some, None, Result}
+use Rattle.std.proofs.Common.{Ok, Err, refl, sym, ap, subst, ◌∙◌, arith}
 use Rattle.std.specs.Prelude.{nat_lt, if◌then◌else◌}
 use Rattle.std.specs.FinMap.{get}
 use Rattle.std.proofs.lemmas.Bool.{ltb-true, ltb-false}
@@ -49,16 +50,19 @@ still_of tells registers store runs is = record {
   no_change = subst (λ (w : Running). Runs tells w registers.offset store) is runs;
 }
 
-running_of : (tells : Type 0) (registers : Registers) (running : Running) (store : StoreView) → Runs tells running registers.offset store → registers.running ≡ running → is_nothing running ≡ false → IsRunning (seen registers store)
+running_of : (tells : Type 0) (registers : Registers) (running : Running) (store : StoreView) → Runs tells running registers.offset store →
+    registers.running ≡ running → is_nothing running ≡ false → IsRunning (seen registers store)
 running_of tells registers Nothing store runs is some = absurd (cc)
 running_of tells registers (Reading id) store runs is some = Reads id (ap reading_of is)
 running_of tells registers Changing store runs is some = Changes runs
 
-pub runs_of : (tells : Type 0) (registers : Registers) (store : StoreView) → Runs tells registers.running registers.offset store → is_nothing registers.running ≡ false → IsRunning (seen registers store)
+pub runs_of : (tells : Type 0) (registers : Registers) (store : StoreView) → Runs tells registers.running registers.offset store → is_nothing registers.running
+    ≡ false → IsRunning (seen registers store)
 runs_of tells registers store runs some = running_of tells registers registers.running store runs refl some
 
 -- the action that a code names
-pub of_action : (tells : Type 0) (old new : DeviceState) (range after : List ℕ) (action known : Action) → action ≡ known → Acts tells old range (Some known) new after → Acts tells old range (Some action) new after
+pub of_action : (tells : Type 0) (old new : DeviceState) (range after : List ℕ) (action known : Action) → action ≡ known → Acts tells old range (Some known) new
+    after → Acts tells old range (Some action) new after
 of_action tells old new range after action known is acts = subst (λ (a : Action). Acts tells old range (Some a) new after) (sym is) acts
 
 -- an action that tells a number and does nothing else
@@ -84,7 +88,8 @@ finds_from tells old mid store result range is next allowed =
     (λ h. FindsNext store result h allowed) next
 
 pub finds_some : (tells : Type 0) (old mid : DeviceState) (store : StoreView) (found_id : Option ℕ) (id number : ℕ) (range : List ℕ) → mid ≡ given_up old → found_id ≡ Some id → number ≡ id
-    → (is_reserved number ≡ false) × (number < 2 ^ 64) → FoundNext tells mid.store store mid.cursor (Ok found_id) → Acts tells old range (Some GetRecordIdentifier) (record mid { value = number; cursor = number; store = store }) range
+    → (is_reserved number ≡ false) × (number < 2 ^ 64) → FoundNext tells mid.store store mid.cursor (Ok found_id) →
+    Acts tells old range (Some GetRecordIdentifier) (record mid { value = number; cursor = number; store = store }) range
 finds_some tells old mid store found_id id number range is some same allowed next =
     let named_one : found_id ≡ Some number = some ∙ ap (λ (n : ℕ). Some n) (sym same) in
     finds_from tells old mid store (Ok (Some number)) range is (subst (λ (o : Option ℕ). FoundNext tells mid.store store mid.cursor (Ok o)) named_one next) allowed
@@ -119,7 +124,8 @@ kept_map old new kept equivalent =
     ∙ Leaves-exit old.flash.told new.flash.told (λ image. records_of old.layout image ≡ stored old) kept
 
 -- a start that the store refuses
-pub refused_by : (tells : Type 0) (old left : DeviceState) (range : List ℕ) (result : Result Running CommandStatus) (status : CommandStatus) (error : StoreError) → result ≡ Err status → status ≡ status_of error
+pub refused_by : (tells : Type 0) (old left : DeviceState) (range : List ℕ) (result : Result Running CommandStatus) (status : CommandStatus)
+    (error : StoreError) → result ≡ Err status → status ≡ status_of error
     → Starts tells old range (record left { status = status_of error }) → Starts tells old range (started result left)
 refused_by tells old left range result status error is status_is starts =
     subst (λ (r : Result Running CommandStatus). Starts tells old range (started r left)) (sym is)
@@ -135,27 +141,31 @@ pub record LooksBehind (tells : Type 0) (old : DeviceState) (mid last : StoreVie
   pub next : FoundNext tells old.store mid 0 (Ok (Some least))
   pub same : last ≡ mid
 
-pub looks_behind : (tells : Type 0) (old : DeviceState) (mid last : StoreView) (found_id : Option ℕ) (least : ℕ) → old.operation ≡ Some operations.Read → FoundNext tells old.store mid 0 (Ok found_id) → found_id ≡ Some least → last ≡ mid
+pub looks_behind : (tells : Type 0) (old : DeviceState) (mid last : StoreView) (found_id : Option ℕ) (least : ℕ) → old.operation ≡ Some operations.Read →
+    FoundNext tells old.store mid 0 (Ok found_id) → found_id ≡ Some least → last ≡ mid
     → LooksBehind tells old mid last least
 looks_behind tells old mid last found_id least reads next some same = record { reads = reads; next = subst (λ (o : Option ℕ). FoundNext tells old.store mid 0 (Ok o)) some next; same = same }
 
 map_behind : (tells : Type 0) (old : DeviceState) (mid last : StoreView) (least : ℕ) → LooksBehind tells old mid last least → tells → stored mid ≡ stored old.store
 map_behind tells old mid last least looks told = let n = looks.next in let leaves = n.leaves in kept_map old.store mid (leaves.kept told) leaves.equivalent
 
-pub misses_from : (tells : Type 0) (old : DeviceState) (range : List ℕ) (mid last : StoreView) (least : ℕ) → LooksBehind tells old mid last least → (tells → get (stored mid) (named old.id least) ≡ None)
+pub misses_from : (tells : Type 0) (old : DeviceState) (range : List ℕ) (mid last : StoreView) (least : ℕ) → LooksBehind tells old mid last least →
+    (tells → get (stored mid) (named old.id least) ≡ None)
     → Starts tells old range (record old { status = RecordNotFound; cursor = 0; store = last })
 misses_from tells old range mid last least looks none =
     subst (λ (s : StoreView). Starts tells old range (record old { status = RecordNotFound; cursor = 0; store = s })) (sym looks.same)
     (Misses mid least looks.reads looks.next (λ told. subst (λ (m : Stored). get m (named old.id least) ≡ None) (map_behind tells old mid last least looks told) (none told)))
 
-pub beyond_from : (tells : Type 0) (old : DeviceState) (range : List ℕ) (mid last : StoreView) (least size reach : ℕ) → LooksBehind tells old mid last least → (tells → HasLength (stored mid) (named old.id least) size)
+pub beyond_from : (tells : Type 0) (old : DeviceState) (range : List ℕ) (mid last : StoreView) (least size reach : ℕ) → LooksBehind tells old mid last least →
+    (tells → HasLength (stored mid) (named old.id least) size)
     → length range ≡ reach → nat_lt reach (old.offset + size) ≡ true → Starts tells old range (record old { status = Failed; store = last })
 beyond_from tells old range mid last least size reach looks held long beyond =
     subst (λ (s : StoreView). Starts tells old range (record old { status = Failed; store = s })) (sym looks.same)
     (GoesBeyond mid least size looks.reads looks.next (λ told. subst (λ (m : Stored). HasLength m (named old.id least) size) (map_behind tells old mid last least looks told) (held told))
     (let over : reach < old.offset + size = ltb-true reach (old.offset + size) beyond in omega arith))
 
-pub within_from : (tells : Type 0) (old : DeviceState) (range : List ℕ) (mid last : StoreView) (least id size reach : ℕ) → LooksBehind tells old mid last least → id ≡ named old.id least → (tells → HasLength (stored mid) (named old.id least) size)
+pub within_from : (tells : Type 0) (old : DeviceState) (range : List ℕ) (mid last : StoreView) (least id size reach : ℕ) → LooksBehind tells old mid last least
+    → id ≡ named old.id least → (tells → HasLength (stored mid) (named old.id least) size)
     → length range ≡ reach → nat_lt reach (old.offset + size) ≡ false → Starts tells old range (record old { status = Success; reading = Some id; store = last })
 within_from tells old range mid last least id size reach looks is held long within =
     subst (λ (s : StoreView). Starts tells old range (record old { status = Success; reading = Some id; store = s })) (sym looks.same)
@@ -172,25 +182,30 @@ changing_reads : (tells : Type 0) (registers : Registers) (old : StoreView) (ran
 changing_reads tells registers old range target changing acts =
     subst (λ (o : Option ℕ). Acts tells (record (seen registers old) { reading = o }) range (Some CheckBusyStatus) (target o) range) (sym (ap reading_of changing)) acts
 
-stepped_from : (tells : Type 0) (state : DeviceState) (store : StoreView) (last answer : Bool) (range : List ℕ) → state.reading ≡ None → IsBusy state.store.pending → last ≡ answer → Stepped tells state.store store (Ok last)
+stepped_from : (tells : Type 0) (state : DeviceState) (store : StoreView) (last answer : Bool) (range : List ℕ) → state.reading ≡ None →
+    IsBusy state.store.pending → last ≡ answer → Stepped tells state.store store (Ok last)
     → Acts tells state range (Some CheckBusyStatus) (record state { value = (if answer then 0 else 1); store = store }) range
 stepped_from tells state store last answer range none busy is stepped =
     subst (λ (b : Bool). Acts tells state range (Some CheckBusyStatus) (record state { value = (if b then 0 else 1); store = store }) range) is (Steps store (Ok last) none busy stepped)
 
-pub steps_on : (tells : Type 0) (registers : Registers) (old store : StoreView) (last : Bool) (range : List ℕ) → registers.running ≡ Changing → IsBusy old.pending → last ≡ false → Stepped tells old store (Ok last)
+pub steps_on : (tells : Type 0) (registers : Registers) (old store : StoreView) (last : Bool) (range : List ℕ) → registers.running ≡ Changing →
+    IsBusy old.pending → last ≡ false → Stepped tells old store (Ok last)
     → Acts tells (seen registers old) range (Some CheckBusyStatus) (record (seen registers old) { value = 1; store = store }) range
 steps_on tells registers old store last range changing busy is stepped =
     changing_reads tells registers old range (λ o. record (seen registers old) { value = 1; reading = o; store = store }) changing
     (stepped_from tells (record (seen registers old) { reading = None }) store last false range refl busy is stepped)
 
-pub steps_last : (tells : Type 0) (registers : Registers) (old store : StoreView) (last : Bool) (range : List ℕ) → registers.running ≡ Changing → IsBusy old.pending → last ≡ true → Stepped tells old store (Ok last)
+pub steps_last : (tells : Type 0) (registers : Registers) (old store : StoreView) (last : Bool) (range : List ℕ) → registers.running ≡ Changing →
+    IsBusy old.pending → last ≡ true → Stepped tells old store (Ok last)
     → Acts tells (seen registers old) range (Some CheckBusyStatus) (record (seen registers old) { value = 0; reading = None; store = store }) range
 steps_last tells registers old store last range changing busy is stepped =
     changing_reads tells registers old range (λ o. record (seen registers old) { value = 0; reading = None; store = store }) changing
     (stepped_from tells (record (seen registers old) { reading = None }) store last true range refl busy is stepped)
 
-pub steps_failed : (tells : Type 0) (registers : Registers) (old store : StoreView) (error : StoreError) (status : CommandStatus) (range : List ℕ) → registers.running ≡ Changing → IsBusy old.pending → status ≡ status_of error
-    → Stepped tells old store (Err error) → Acts tells (seen registers old) range (Some CheckBusyStatus) (record (seen registers old) { value = 0; status = status; reading = None; store = store }) range
+pub steps_failed : (tells : Type 0) (registers : Registers) (old store : StoreView) (error : StoreError) (status : CommandStatus) (range : List ℕ) →
+    registers.running ≡ Changing → IsBusy old.pending → status ≡ status_of error
+    → Stepped tells old store (Err error) → Acts tells (seen registers old) range (Some CheckBusyStatus)
+    (record (seen registers old) { value = 0; status = status; reading = None; store = store }) range
 steps_failed tells registers old store error status range changing busy is stepped =
     subst (λ (s : CommandStatus). Acts tells (seen registers old) range (Some CheckBusyStatus) (record (seen registers old) { value = 0; status = s; reading = None; store = store }) range) (sym is)
     (changing_reads tells registers old range (λ o. record (seen registers old) { value = 0; status = status_of error; reading = None; store = store }) changing
@@ -208,9 +223,11 @@ shows_from tells old store id range out result runs read =
 
 pub shows_failed : (tells : Type 0) (old : DeviceState) (store : StoreView) (id : ℕ) (range out : List ℕ) (error : StoreError) (status : CommandStatus) → old.reading ≡ Some id
     → ReadOut tells old.store store id (take (length range - old.offset) (drop old.offset range)) out (Err error) → status ≡ status_of error
-    → Acts tells old range (Some CheckBusyStatus) (record old { value = 0; status = status; reading = None; store = store }) (take old.offset range ++ (out ++ drop (length range - old.offset) (drop old.offset range)))
+    → Acts tells old range (Some CheckBusyStatus) (record old { value = 0; status = status; reading = None; store = store })
+    (take old.offset range ++ (out ++ drop (length range - old.offset) (drop old.offset range)))
 shows_failed tells old store id range out error status runs read is =
-    subst (λ (s : CommandStatus). Acts tells old range (Some CheckBusyStatus) (record old { value = 0; status = s; reading = None; store = store }) (take old.offset range ++ (out ++ drop (length range - old.offset) (drop old.offset range)))) (sym is)
+    subst (λ (s : CommandStatus). Acts tells old range (Some CheckBusyStatus) (record old { value = 0; status = s; reading = None; store = store })
+    (take old.offset range ++ (out ++ drop (length range - old.offset) (drop old.offset range)))) (sym is)
     (shows_from tells old store id range out (Err error) runs read)
 
 unfoldable first_of : Option (List ℕ × ℕ) → List ℕ
@@ -264,7 +281,8 @@ read_out tells store new record_id id offset range after result same reading lon
     record {
       ready = reading.ready;
       answer = answered;
-      error = λ told. reads_or_fails store id offset (take (length range - offset) (drop offset range)) after result reading.usable (reading.held told) (borrowed_len range offset (reach_of (room_of store.layout)) long) (answered told);
+      error = λ told. reads_or_fails store id offset (take (length range - offset) (drop offset range)) after result reading.usable (reading.held told)
+          (borrowed_len range offset (reach_of (room_of store.layout)) long) (answered told);
       still = still;
       leaves = leaves;
     }

@@ -11,7 +11,9 @@ use Rattle.record_store.specs.Answers.{HasFaultsOf, EndsCopies, copies_in, copie
 use Rattle.record_store.specs.declared.errors.StoreError.{StoreError}
 use Rattle.record_store.specs.declared.errors.StoreError.TheVariants as errors
 use Rattle.erst_entries.specs.declared.actions.Action.{Action}
-use Rattle.erst_entries.specs.declared.actions.Action.TheVariants.{BeginWriteOperation, BeginReadOperation, BeginClearOperation, EndOperation, SetRecordOffset, ExecuteOperation, CheckBusyStatus, GetRecordIdentifier, SetRecordIdentifier, GetRecordCount, BeginDummyWriteOperation}
+use Rattle.erst_entries.specs.declared.actions.Action.TheVariants.{BeginWriteOperation, BeginReadOperation, BeginClearOperation, EndOperation, SetRecordOffset}
+use Rattle.erst_entries.specs.declared.actions.Action.TheVariants.{ExecuteOperation, CheckBusyStatus, GetRecordIdentifier, SetRecordIdentifier, GetRecordCount}
+use Rattle.erst_entries.specs.declared.actions.Action.TheVariants.{BeginDummyWriteOperation}
 use Rattle.erst_device.specs.declared.registers.Operation.{Operation}
 use Rattle.erst_device.specs.declared.registers.Operation.TheVariants.{Write, Read, Clear, Dummy}
 use Rattle.erst_device.specs.declared.status.CommandStatus.{CommandStatus}
@@ -20,7 +22,8 @@ use Rattle.erst_device.specs.Statuses.{status_of}
 use Rattle.erst_device.specs.StoreCalls.{Stepped, ReadOut, FoundNext, Counted}
 use Rattle.erst_device.specs.DeviceState.{DeviceState, records, IsStill, IsRunning, Reads, Changes, is_busy, given_up}
 use Rattle.erst_device.specs.Starts.{Starts, NoneBegun, WritesDummy, NoDraft, Writes, LookFails, FindsNone, Misses, GoesBeyond, Finds, NoneToClear, Clears, status_after}
-use Rattle.erst_device.specs.Actions.{Acts, Begins, Ends, SetsOffset, SetsId, Waits, Executes, NoneRuns, Steps, Shows, Tells, FindsNext, Counts, Ignores, told_by, begun_by, waits, stepped, shown, found, counted}
+use Rattle.erst_device.specs.Actions.{Acts, Begins, Ends, SetsOffset, SetsId, Waits, Executes, NoneRuns, Steps, Shows, Tells, FindsNext, Counts, Ignores}
+use Rattle.erst_device.specs.Actions.{told_by, begun_by, waits, stepped, shown, found, counted}
 use Rattle.erst_device.specs.Effects.{asks, makes_change, Effect}
 use Rattle.erst_device.proofs.ActionLemmas.{kept_map}
 use Rattle.record_store.proofs.Words.{doubt_after}
@@ -88,7 +91,8 @@ without_fault P before after (Err errors.Flash) cause holds quiet = absurd (quie
 without_fault P before after (Err (errors.Small need)) cause holds quiet = holds
 
 -- the store was asked, and ended its second copies first
-keeps_asked : {T : Type 0} (tells : Type 0) (old new : StoreView) (result : Result T StoreError) → (tells → KeepsMap old new) → (tells → new.flash.steps ≤ old.flash.steps + 1) → (tells → EndsCopies old new result)
+keeps_asked : {T : Type 0} (tells : Type 0) (old new : StoreView) (result : Result T StoreError) → (tells → KeepsMap old new) →
+    (tells → new.flash.steps ≤ old.flash.steps + 1) → (tells → EndsCopies old new result)
     → DividesAlike old new → LosesOnlyByChange old.flash new.flash → HasFaultsOf old.flash.faults new.flash.faults result → Keeps tells old new (stored old) (copies_of old)
 keeps_asked tells old new result kept few ended equivalent power cause = record {
   crash = λ told. Leaves-weaker old.flash.told new.flash.told _ _ (kept told) (λ image same. inl same);
@@ -130,8 +134,10 @@ record HasCauses (tells : Type 0) (old : DeviceState) (action : Option Action) (
   next : action ≡ Some GetRecordIdentifier → new.value ≡ 0 → Rose old.store.flash.faults new.store.flash.faults
   count : action ≡ Some GetRecordCount → new.value ≡ 2 ^ 32 - 1 → Rose old.store.flash.faults new.store.flash.faults
 
-effect_by : (tells : Type 0) (old : DeviceState) (range : List ℕ) (action : Option Action) (new : DeviceState) (changing asking : Bool) → makes_change action old ≡ changing → asks action old range ≡ asking
-    → Keeps tells old.store new.store (if changing then map_after old.store.layout old.store.pending (records old) else records old) (if changing then 1 else (if asking then copies_of (given_up old).store else 0))
+effect_by : (tells : Type 0) (old : DeviceState) (range : List ℕ) (action : Option Action) (new : DeviceState) (changing asking : Bool) →
+    makes_change action old ≡ changing → asks action old range ≡ asking
+    → Keeps tells old.store new.store (if changing then map_after old.store.layout old.store.pending (records old) else records old)
+    (if changing then 1 else (if asking then copies_of (given_up old).store else 0))
     → HasCauses tells old action new → Effect tells old range action new
 effect_by tells old range action new changing asking changes_is asks_is keeps causes =
     let by_ask = subst (λ (b : Bool). Keeps tells old.store new.store (if changing then map_after old.store.layout old.store.pending (records old) else records old)
@@ -157,7 +163,8 @@ record IsPlain (action : Option Action) : Type 0 where
   no_next : action ≡ Some GetRecordIdentifier → ⊥
   no_count : action ≡ Some GetRecordCount → ⊥
 
-plain_causes : (tells : Type 0) (old : DeviceState) (action : Option Action) (new : DeviceState) → IsPlain action → (new.status ≡ HardwareNotAvailable → Rose old.store.flash.faults new.store.flash.faults ⊎ (new.status ≡ old.status))
+plain_causes : (tells : Type 0) (old : DeviceState) (action : Option Action) (new : DeviceState) → IsPlain action →
+    (new.status ≡ HardwareNotAvailable → Rose old.store.flash.faults new.store.flash.faults ⊎ (new.status ≡ old.status))
     → HasCauses tells old action new
 plain_causes tells old action new plain status = record {
   status = λ is. elim (status is) [ inl rose ↦ inl rose | inr same ↦ inr (same, λ e. absurd (plain.no_start e)) ];
@@ -183,7 +190,8 @@ tells_plain GetRecordIdentifier old number told = absurd (cc)
 tells_plain GetRecordCount old number told = absurd (cc)
 tells_plain action old number told = record { no_start = λ e. cc; no_next = λ e. cc; no_count = λ e. cc }
 
-tells_quietly : (action : Action) (old : DeviceState) (range : List ℕ) (number : ℕ) → told_by action old.status old.store.layout ≡ Some number → (makes_change (Some action) old ≡ false) × (asks (Some action) old range ≡ false)
+tells_quietly : (action : Action) (old : DeviceState) (range : List ℕ) (number : ℕ) → told_by action old.status old.store.layout ≡ Some number →
+    (makes_change (Some action) old ≡ false) × (asks (Some action) old range ≡ false)
 tells_quietly ExecuteOperation old range number told = absurd (cc)
 tells_quietly CheckBusyStatus old range number told = absurd (cc)
 tells_quietly GetRecordIdentifier old range number told = absurd (cc)
@@ -198,7 +206,8 @@ begins_plain BeginClearOperation operation by = record { no_start = λ e. cc; no
 begins_plain BeginDummyWriteOperation operation by = record { no_start = λ e. cc; no_next = λ e. cc; no_count = λ e. cc }
 begins_plain action operation by = absurd (cc)
 
-begins_quietly : (action : Action) (operation : Operation) (state : DeviceState) (range : List ℕ) → begun_by action ≡ Some operation → (makes_change (Some action) state ≡ false) × (asks (Some action) state range ≡ false)
+begins_quietly : (action : Action) (operation : Operation) (state : DeviceState) (range : List ℕ) → begun_by action ≡ Some operation →
+    (makes_change (Some action) state ≡ false) × (asks (Some action) state range ≡ false)
 begins_quietly BeginWriteOperation operation state range by = (refl, refl)
 begins_quietly BeginReadOperation operation state range by = (refl, refl)
 begins_quietly BeginClearOperation operation state range by = (refl, refl)
@@ -220,8 +229,10 @@ running_true state (Reads id is) = ap (λ (o : Option ℕ). cond (is_some o) tru
 running_true state (Changes busy) = ap (λ (b : Bool). cond (is_some state.reading) true b) (busy_true state.store.pending busy) ∙ or_true (is_some state.reading)
 
 effect_of_waiting : (tells : Type 0) (old : DeviceState) (range : List ℕ) (action : Action) → waits action ≡ true → IsRunning old → Effect tells old range (Some action) old
-effect_of_waiting tells old range SetRecordOffset waits_is runs = effect_of_none tells old range (Some SetRecordOffset) old (record { no_start = λ e. cc; no_next = λ e. cc; no_count = λ e. cc }) refl refl refl refl
-effect_of_waiting tells old range SetRecordIdentifier waits_is runs = effect_of_none tells old range (Some SetRecordIdentifier) old (record { no_start = λ e. cc; no_next = λ e. cc; no_count = λ e. cc }) refl refl refl refl
+effect_of_waiting tells old range SetRecordOffset waits_is runs = effect_of_none tells old range (Some SetRecordOffset) old
+    (record { no_start = λ e. cc; no_next = λ e. cc; no_count = λ e. cc }) refl refl refl refl
+effect_of_waiting tells old range SetRecordIdentifier waits_is runs = effect_of_none tells old range (Some SetRecordIdentifier) old
+    (record { no_start = λ e. cc; no_next = λ e. cc; no_count = λ e. cc }) refl refl refl refl
 effect_of_waiting tells old range ExecuteOperation waits_is runs =
     effect_by tells old range (Some ExecuteOperation) old false false refl
     (ap (λ (b : Bool). if b then false else start_asks old.operation old range) (running_true old runs))
@@ -305,7 +316,8 @@ effect_of_start tells old range new still starts =
 plain_step : IsPlain (Some CheckBusyStatus)
 plain_step = record { no_start = λ e. cc; no_next = λ e. cc; no_count = λ e. cc }
 
-step_status : (old : DeviceState) (store : StoreView) (result : Result Bool StoreError) → HasFaultsOf old.store.flash.faults store.flash.faults result → (stepped result store old).status ≡ HardwareNotAvailable
+step_status : (old : DeviceState) (store : StoreView) (result : Result Bool StoreError) → HasFaultsOf old.store.flash.faults store.flash.faults result →
+    (stepped result store old).status ≡ HardwareNotAvailable
     → Rose old.store.flash.faults (stepped result store old).store.flash.faults ⊎ ((stepped result store old).status ≡ old.status)
 step_status old store (Ok last) cause is = inr refl
 step_status old store (Err error) cause is = inl (status_rose Bool _ _ error cause is)
@@ -318,10 +330,12 @@ effect_of_step : (tells : Type 0) (old : DeviceState) (range : List ℕ) (store 
     → Effect tells old range (Some CheckBusyStatus) (stepped result store old)
 effect_of_step tells old range store result busy step =
     effect_by tells old range (Some CheckBusyStatus) (stepped result store old) true false (busy_true old.store.pending busy) refl
-    (subst (λ (s : StoreView). Keeps tells old.store s (map_after old.store.layout old.store.pending (records old)) 1) (sym (step_store old store result)) (keeps_stepped tells old.store store result step))
+    (subst (λ (s : StoreView). Keeps tells old.store s (map_after old.store.layout old.store.pending (records old)) 1) (sym (step_store old store result))
+    (keeps_stepped tells old.store store result step))
     (plain_causes tells old (Some CheckBusyStatus) _ plain_step (step_status old store result step.cause))
 
-show_status : (old : DeviceState) (id : ℕ) (store : StoreView) (result : Result ℕ StoreError) → HasFaultsOf old.store.flash.faults store.flash.faults result → (shown id result store old).status ≡ HardwareNotAvailable
+show_status : (old : DeviceState) (id : ℕ) (store : StoreView) (result : Result ℕ StoreError) → HasFaultsOf old.store.flash.faults store.flash.faults result →
+    (shown id result store old).status ≡ HardwareNotAvailable
     → Rose old.store.flash.faults (shown id result store old).store.flash.faults ⊎ ((shown id result store old).status ≡ old.status)
 show_status old id store (Ok size) cause is = absurd (cc)
 show_status old id store (Err error) cause is = inl (status_rose ℕ _ _ error cause is)
@@ -334,7 +348,8 @@ show_store old id store (Err error) = refl
 copies_certain : (store : StoreView) → store.in_doubt ≡ false → copies_of store ≡ 0
 copies_certain store certain = ap (λ (b : Bool). if b then copies_in store else 0) certain
 
-effect_of_show : (tells : Type 0) (old : DeviceState) (range : List ℕ) (id : ℕ) (store : StoreView) (before after : List ℕ) (result : Result ℕ StoreError) → ReadOut tells old.store store id before after result
+effect_of_show : (tells : Type 0) (old : DeviceState) (range : List ℕ) (id : ℕ) (store : StoreView) (before after : List ℕ) (result : Result ℕ StoreError) →
+    ReadOut tells old.store store id before after result
     → Effect tells old range (Some CheckBusyStatus) (shown id result store old)
 effect_of_show tells old range id store before after result read =
     let leaves = read.leaves in
@@ -351,7 +366,8 @@ keeps_given_up tells old new map changes keeps =
     let equivalent : DividesAlike old new = record { layout = keeps.equivalent.layout; size = keeps.equivalent.size; sector_size = keeps.equivalent.sector_size } in
     record { crash = keeps.crash; made = keeps.made; exact = keeps.exact; few = keeps.few; never_falls = keeps.never_falls; equivalent = equivalent; power = keeps.power }
 
-effect_of_look : (tells : Type 0) (old : DeviceState) (range : List ℕ) (store : StoreView) (result : Result (Option ℕ) StoreError) → FoundNext tells (given_up old).store store old.cursor result → IsAllowed result
+effect_of_look : (tells : Type 0) (old : DeviceState) (range : List ℕ) (store : StoreView) (result : Result (Option ℕ) StoreError) →
+    FoundNext tells (given_up old).store store old.cursor result → IsAllowed result
     → Effect tells old range (Some GetRecordIdentifier) (found result store (given_up old))
 effect_of_look tells old range store (Ok (Some id)) next allowed =
     effect_by tells old range (Some GetRecordIdentifier) _ false true refl refl
@@ -391,7 +407,8 @@ effect_of_count tells old range store (Err error) count =
       count = λ e greatest. error_rose ℕ _ _ error leaves.cause count.error;
     })
 
-pub effect_of : (tells : Type 0) (old : DeviceState) (range : List ℕ) (action : Option Action) (new : DeviceState) (after : List ℕ) → Acts tells old range action new after → Effect tells old range action new
+pub effect_of : (tells : Type 0) (old : DeviceState) (range : List ℕ) (action : Option Action) (new : DeviceState) (after : List ℕ) →
+    Acts tells old range action new after → Effect tells old range action new
 effect_of tells old range action new after acts =
     elim acts as (λ action new after acts. Effect tells old range action new) [
       | Begins action operation by ↦

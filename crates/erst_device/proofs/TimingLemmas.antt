@@ -11,7 +11,8 @@ pub no_part : (layout : Layout) (size : ℕ) → changes_of_parts layout size 0 
 unfolding pieces_of_parts
 no_part layout size = omega arith
 
-one_part : (per_slot room size n : ℕ) → suc n * (per_slot + 2) + pieces_of_parts room size (suc n) ≡ n * (per_slot + 2) + pieces_of_parts room size n + (per_slot + 2 + pieces_of (part_len room size n))
+one_part : (per_slot room size n : ℕ) → suc n * (per_slot + 2) + pieces_of_parts room size (suc n) ≡ n * (per_slot + 2) + pieces_of_parts room size n +
+    (per_slot + 2 + pieces_of (part_len room size n))
 unfolding pieces_of_parts
 one_part per_slot room size n =
     let spread : (n + 1) * (per_slot + 2) ≡ n * (per_slot + 2) + 1 * (per_slot + 2) = add-mul n 1 (per_slot + 2) in
@@ -56,7 +57,8 @@ so_far_more layout reach part len changes changes_is len_eq =
     let pieces : (len + 255) / 256 ≡ pieces_of (part_len (room_of layout) reach part) = ap pieces_of len_eq in
     omega arith
 
-pub all_parts : (layout : Layout) (reach room part changes : ℕ) → reach ≡ reach_of (room_of layout) → room ≡ room_of layout → part ≡ (reach + (room - 1)) / room → changes ≡ changes_of_parts layout reach part
+pub all_parts : (layout : Layout) (reach room part changes : ℕ) → reach ≡ reach_of (room_of layout) → room ≡ room_of layout → part ≡ (reach + (room - 1)) / room
+    → changes ≡ changes_of_parts layout reach part
     → changes + 2 ≡ most_changes layout
 unfolding parts_of
 all_parts layout reach room part changes reach_is room_is part_is changes_is =

@@ -45,10 +45,27 @@ four bytes h =
 
 -- the entry that stands in 32 bytes, given its region
 pub read-spelling : (bytes : List ℕ) (region : Gas) → AreBytes bytes → length bytes ≡ 32 → part bytes 4 12 ≡ gas_spelling region →
-    bytes ≡ entry_spelling (record { action = get_or bytes 0 0; code = get_or bytes 1 0; flags = get_or bytes 2 0; spare = get_or bytes 3 0; region = region; value = number_at bytes 16 8; mask = number_at bytes 24 8 })
+    bytes ≡ entry_spelling (record {
+      action = get_or bytes 0 0;
+      code = get_or bytes 1 0;
+      flags = get_or bytes 2 0;
+      spare = get_or bytes 3 0;
+      region = region;
+      value = number_at bytes 16 8;
+      mask = number_at bytes 24 8;
+    })
 unfolding entry_spelling
 read-spelling bytes region each size is =
-    let fields : parts sizes 0 bytes ≡ entry_fields (record { action = get_or bytes 0 0; code = get_or bytes 1 0; flags = get_or bytes 2 0; spare = get_or bytes 3 0; region = region; value = number_at bytes 16 8; mask = number_at bytes 24 8 }) =
+    let fields : parts sizes 0 bytes ≡ entry_fields (record {
+      action = get_or bytes 0 0;
+      code = get_or bytes 1 0;
+      flags = get_or bytes 2 0;
+      spare =
+          get_or bytes 3 0;
+      region = region;
+      value = number_at bytes 16 8;
+      mask = number_at bytes 24 8;
+    }) =
     rw (four bytes (omega arith), is, spelled-number_at bytes 16 8 each (omega arith), spelled-number_at bytes 24 8 each (omega arith)) refl in
     sym (part-whole bytes 32 (omega arith)) ∙ sym (joined-parts sizes 0 bytes) ∙ ap joined fields
 

@@ -1,5 +1,6 @@
 -- What is found is the one table that the bytes begin with.
-use Rattle.std.proofs.Common.{◌≡◌, ◌⊎◌, ℕ, ◌+◌, ◌*◌, ◌<◌, ◌≤◌, ◌^◌, ◌==◌, ◌||◌, not, true, List, [], ◌∷◌, ◌++◌, length, take, drop, Option, Some, None, inl, inr, eq-eqb, cond, refl, sym, ap, ◌∙◌, arith, length-append}
+use Rattle.std.proofs.Common.{◌≡◌, ◌⊎◌, ℕ, ◌+◌, ◌*◌, ◌<◌, ◌≤◌, ◌^◌, ◌==◌, ◌||◌, not, true, List, [], ◌∷◌, ◌++◌, length, take, drop, Option, Some, None, inl}
+use Rattle.std.proofs.Common.{inr, eq-eqb, cond, refl, sym, ap, ◌∙◌, arith, length-append}
 use Rattle.std.proofs.lemmas.List.{take-append-drop, take_at, drop_at}
 use Rattle.base_model.specs.Bytes.{part, number_at, little, spelled, AreBytes}
 use Rattle.base_model.proofs.BytesLemmas.{length-spelled, part-append, part-whole, part-append_left, part-append_right, little-spelled, spelled-number_at, number_at-lt}
@@ -22,7 +23,8 @@ use Rattle.erst_entries.proofs.Terms.{signature, entries_spelling}
 pub split : (signature : List ℕ) (fixed : ℕ) (bytes : List ℕ) (header : Header) (table : List ℕ) → FindsTable signature fixed bytes header table → bytes ≡ table ++ drop (length table) bytes
 split signature fixed bytes header table found = sym (take-append-drop (length table) bytes) ∙ ap (λ (xs : List ℕ). xs ++ drop (length table) bytes) (sym found.prefix)
 
-pub finds : (bytes : List ℕ) (header : Header) (table : List ℕ) → FindsTable signature 48 bytes header table → ((number_at bytes 36 4 ≡ 48) ⊎ (number_at bytes 36 4 ≡ 12)) → number_at bytes 4 4 ≡ 48 + 32 * number_at bytes 44 4 → FindsErst bytes header table
+pub finds : (bytes : List ℕ) (header : Header) (table : List ℕ) → FindsTable signature 48 bytes header table →
+    ((number_at bytes 36 4 ≡ 48) ⊎ (number_at bytes 36 4 ≡ 12)) → number_at bytes 4 4 ≡ 48 + 32 * number_at bytes 44 4 → FindsErst bytes header table
 finds bytes header table found size all = record {
   finds = found;
   size = size;
@@ -77,7 +79,8 @@ size-of : (erst : Erst) → FitsErst erst → length (spelling erst) ≡ 48 + 32
 size-of erst fits = size-is erst (has_sizes erst.header fits.header)
 
 -- what is read at the front of bytes that such a table begins
-read-front : (erst : Erst) (bytes table rest : List ℕ) (at n x : ℕ) → bytes ≡ table ++ rest → table ≡ spelling erst → at + n ≤ length table → part (spelling erst) at n ≡ spelled n x → x < 256 ^ n → number_at bytes at n ≡ x
+read-front : (erst : Erst) (bytes table rest : List ℕ) (at n x : ℕ) → bytes ≡ table ++ rest → table ≡ spelling erst → at + n ≤ length table →
+    part (spelling erst) at n ≡ spelled n x → x < 256 ^ n → number_at bytes at n ≡ x
 unfolding number_at
 read-front erst bytes table rest at n x same is room there small =
     ap little (part-front bytes table rest at n same room ∙ ap (λ (xs : List ℕ). part xs at n) is ∙ there) ∙ little-spelled n x small
@@ -141,9 +144,12 @@ same_erst a b fits_a fits_b same =
     let long_a : length ha ≡ 36 = length-spelling a.header (has_sizes a.header fits_a.header) in
     let long_b : length hb ≡ 36 = length-spelling b.header (has_sizes b.header fits_b.header) in
     let one : length (ha ++ spelled 4 a.header_size) ≡ length (hb ++ spelled 4 b.header_size) = simp (length-append, length-spelled, long_a, long_b) refl in
-    let two : length ((ha ++ spelled 4 a.header_size) ++ spelled 4 a.reserved) ≡ length ((hb ++ spelled 4 b.header_size) ++ spelled 4 b.reserved) = simp (length-append, length-spelled, long_a, long_b) refl in
-    let three : length (((ha ++ spelled 4 a.header_size) ++ spelled 4 a.reserved) ++ spelled 4 a.count) ≡ length (((hb ++ spelled 4 b.header_size) ++ spelled 4 b.reserved) ++ spelled 4 b.count) = simp (length-append, length-spelled, long_a, long_b) refl in
-    let all = append_split (((ha ++ spelled 4 a.header_size) ++ spelled 4 a.reserved) ++ spelled 4 a.count) (entries_spelling a.entries) (((hb ++ spelled 4 b.header_size) ++ spelled 4 b.reserved) ++ spelled 4 b.count) (entries_spelling b.entries) three same in
+    let two : length ((ha ++ spelled 4 a.header_size) ++ spelled 4 a.reserved) ≡ length ((hb ++ spelled 4 b.header_size) ++ spelled 4 b.reserved) =
+    simp (length-append, length-spelled, long_a, long_b) refl in
+    let three : length (((ha ++ spelled 4 a.header_size) ++ spelled 4 a.reserved) ++ spelled 4 a.count)
+    ≡ length (((hb ++ spelled 4 b.header_size) ++ spelled 4 b.reserved) ++ spelled 4 b.count) = simp (length-append, length-spelled, long_a, long_b) refl in
+    let all = append_split (((ha ++ spelled 4 a.header_size) ++ spelled 4 a.reserved) ++ spelled 4 a.count) (entries_spelling a.entries)
+    (((hb ++ spelled 4 b.header_size) ++ spelled 4 b.reserved) ++ spelled 4 b.count) (entries_spelling b.entries) three same in
     let counts = append_split ((ha ++ spelled 4 a.header_size) ++ spelled 4 a.reserved) (spelled 4 a.count) ((hb ++ spelled 4 b.header_size) ++ spelled 4 b.reserved) (spelled 4 b.count) two all.0 in
     let reserves = append_split (ha ++ spelled 4 a.header_size) (spelled 4 a.reserved) (hb ++ spelled 4 b.header_size) (spelled 4 b.reserved) one counts.0 in
     let sizes = append_split ha (spelled 4 a.header_size) hb (spelled 4 b.header_size) (long_a ∙ sym long_b) reserves.0 in

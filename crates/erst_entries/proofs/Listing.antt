@@ -1,5 +1,6 @@
 -- The entries of an action, counted and found by their place.
-use Rattle.std.proofs.Common.{◌≡◌, ℕ, zero, suc, ◌+◌, ◌-◌, ◌<◌, ◌≤◌, ◌==◌, Bool, true, false, List, [], ◌∷◌, ◌++◌, length, take, drop, get_or, slice_get, count_by, Some, ◌⊎◌, inl, inr, refl, sym, ap, subst, ◌∙◌, arith, eq-eqb, drop-cons, length-append, append-nil}
+use Rattle.std.proofs.Common.{◌≡◌, ℕ, zero, suc, ◌+◌, ◌-◌, ◌<◌, ◌≤◌, ◌==◌, Bool, true, false, List, [], ◌∷◌, ◌++◌, length, take, drop, get_or, slice_get}
+use Rattle.std.proofs.Common.{count_by, Some, ◌⊎◌, inl, inr, refl, sym, ap, subst, ◌∙◌, arith, eq-eqb, drop-cons, length-append, append-nil}
 use Rattle.std.proofs.lemmas.List.{take-append-drop, drop_all}
 use Rattle.std.proofs.lemmas.Bool.Decides.{eqb_tells}
 use Rattle.std.proofs.lemmas.List.Sums.{length-filter}
@@ -50,7 +51,8 @@ entries_of-all action (entry ∷ entries) all =
     ]
 
 -- as many as there are stand in the front, so none stands behind it
-pub entries_of-front : (action n : ℕ) (entries : List Entry) → length (entries_of action (take n entries)) ≡ length (entries_of action entries) → entries_of action (take n entries) ≡ entries_of action entries
+pub entries_of-front : (action n : ℕ) (entries : List Entry) → length (entries_of action (take n entries)) ≡ length (entries_of action entries) →
+    entries_of action (take n entries) ≡ entries_of action entries
 unfolding entries_of
 entries_of-front action n entries all =
     let split : entries_of action entries ≡ entries_of action (take n entries) ++ entries_of action (drop n entries) =
@@ -109,7 +111,8 @@ pub is_left-end : (action : ℕ) (all : List Entry) (i left : ℕ) (entries : Li
 is_left-end action all i left entries index h is =
     is_left-none action left entries index (subst (λ (xs : List Entry). IsLeft action xs left entries index) (drop_all i all h) is)
 
-pub skip-next : (action : ℕ) (entries : List Entry) (i : ℕ) (d : Entry) → i < length entries → ((get_or entries i d).action == action) ≡ false → entries_of action (drop (i + 1) entries) ≡ entries_of action (drop i entries)
+pub skip-next : (action : ℕ) (entries : List Entry) (i : ℕ) (d : Entry) → i < length entries → ((get_or entries i d).action == action) ≡ false →
+    entries_of action (drop (i + 1) entries) ≡ entries_of action (drop i entries)
 skip-next action entries i d h other =
     sym (ap (entries_of action) (drop-next entries i d h) ∙ entries_of-cons_other action (get_or entries i d) (drop (i + 1) entries) other)
 

@@ -1,5 +1,6 @@
 -- A table is its header, three numbers and its entries.
-use Rattle.std.proofs.Common.{◌≡◌, ℕ, ◌+◌, ◌*◌, ◌%◌, ◌<◌, ◌^◌, List, [], ◌∷◌, ◌++◌, length, take, map, get_or, sum, refl, sym, ap, ◌∙◌, arith, append-nil, append_assoc, length-append, drop-cons, take-add}
+use Rattle.std.proofs.Common.{◌≡◌, ℕ, ◌+◌, ◌*◌, ◌%◌, ◌<◌, ◌^◌, List, [], ◌∷◌, ◌++◌, length, take, map, get_or, sum, refl, sym, ap, ◌∙◌, arith, append-nil}
+use Rattle.std.proofs.Common.{append_assoc, length-append, drop-cons, take-add}
 use Rattle.std.proofs.lemmas.List.Sums.{sum_by-append}
 use Rattle.base_model.specs.Bytes.{part, number_at, spelled, put_at}
 use Rattle.base_model.proofs.BytesLemmas.{length-spelled, part-append}

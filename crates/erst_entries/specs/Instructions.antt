@@ -1,7 +1,9 @@
 -- The serialization instructions (ACPI 6.4, section 18.5.1.2): their codes, and the standard's names.
 use Rattle.std.specs.Prelude.{ℕ, List, [], ◌∷◌, Option, slice_get, codes}
 use Rattle.erst_entries.specs.declared.instructions.Instruction.{Instruction}
-use Rattle.erst_entries.specs.declared.instructions.Instruction.TheVariants.{ReadRegister, ReadRegisterValue, WriteRegister, WriteRegisterValue, Noop, LoadVar1, LoadVar2, StoreVar1, Add, Subtract, AddValue, SubtractValue, Stall, StallWhileTrue, SkipNextIfTrue, Goto, SetSourceBase, SetTargetBase, MoveData}
+use Rattle.erst_entries.specs.declared.instructions.Instruction.TheVariants.{ReadRegister, ReadRegisterValue, WriteRegister, WriteRegisterValue, Noop, LoadVar1}
+use Rattle.erst_entries.specs.declared.instructions.Instruction.TheVariants.{LoadVar2, StoreVar1, Add, Subtract, AddValue, SubtractValue, Stall, StallWhileTrue}
+use Rattle.erst_entries.specs.declared.instructions.Instruction.TheVariants.{SkipNextIfTrue, Goto, SetSourceBase, SetTargetBase, MoveData}
 
 -- the instruction of a code: they stand in the order of their codes, from 0 on
 abbrev pub instruction_of : ℕ → Option Instruction

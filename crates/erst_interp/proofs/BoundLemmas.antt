@@ -1,5 +1,6 @@
 -- What bounds the accesses of a run: one number does not rise without an access, and falls with each answer.
-use Rattle.std.proofs.Common.{◌≡◌, ℕ, ◌+◌, ◌-◌, ◌*◌, ◌<◌, ◌≤◌, ◌%◌, ◌^◌, ◌==◌, ◌&&◌, not, if◌then◌else◌, Bool, true, false, length, Option, Some, None, nat_lt, nat_le, Ok, Err, Result, OnOk, bit_and, refl, sym, subst, arith}
+use Rattle.std.proofs.Common.{◌≡◌, ℕ, ◌+◌, ◌-◌, ◌*◌, ◌<◌, ◌≤◌, ◌%◌, ◌^◌, ◌==◌, ◌&&◌, not, if◌then◌else◌, Bool, true, false, length, Option, Some, None, nat_lt}
+use Rattle.std.proofs.Common.{nat_le, Ok, Err, Result, OnOk, bit_and, refl, sym, subst, arith}
 use Rattle.apei_tables.specs.declared.registers.Register.{Register}
 use Rattle.apei_tables.specs.Fields.{field, stored}
 use Rattle.apei_space.specs.Calls.{Call}
@@ -147,14 +148,16 @@ bound_falls task awaited left answer =
 pub turn_falls : (program : Listed) (given : ℕ) (c : Configuration) (before paid : ℕ) → Turns program given c before None paid → paid < before
 turn_falls program given c before paid turns = let spent : paid + 1 ≡ before = turn_spends program given c before None paid turns in omega arith
 
-executes_spends : {W : Type 0} (allows : W → Call → W → Type 0) (task : Task) (paid : ℕ) (old : W) (answer : Result Configuration RunStop) (left : ℕ) (new : W) → Executes allows task paid old answer left new → OnOk answer (left ≤ paid)
+executes_spends : {W : Type 0} (allows : W → Call → W → Type 0) (task : Task) (paid : ℕ) (old : W) (answer : Result Configuration RunStop) (left : ℕ) (new : W)
+    → Executes allows task paid old answer left new → OnOk answer (left ≤ paid)
 executes_spends allows task paid old answer left new executes = elim executes as (λ answer left new executes. OnOk answer (left ≤ paid)) [
   | GoesOn d more left new step sum ↦ omega arith
   | Stops stop left new halt ↦ tt
 ]
 
 -- an instruction that is carried out takes at least one step
-pub walk_falls : {W : Type 0} (allows : W → Call → W → Type 0) (program : Listed) (given : ℕ) (c : Configuration) (before paid : ℕ) (task : Task) (old : W) (next : Configuration) (left : ℕ) (new : W) →
+pub walk_falls : {W : Type 0} (allows : W → Call → W → Type 0) (program : Listed) (given : ℕ) (c : Configuration) (before paid : ℕ) (task : Task) (old : W)
+    (next : Configuration) (left : ℕ) (new : W) →
     Turns program given c before None paid → Executes allows task paid old (Ok next) left new → left < before
 walk_falls allows program given c before paid task old next left new turns executes =
     let spent : paid < before = turn_falls program given c before paid turns in

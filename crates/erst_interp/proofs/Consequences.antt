@@ -16,7 +16,8 @@ use Rattle.erst_interp.specs.declared.stops.RunStop.{RunStop}
 use Rattle.erst_interp.specs.declared.stops.RunStop.TheVariants.{Space, Budget, Register as BadRegion, UnknownInstruction, Goto, MoveTooLong, NoAction}
 use Rattle.erst_interp.specs.Configurations.{begin}
 use Rattle.erst_interp.specs.Accesses.{FieldRead, Got, Refused, Store, Whole, Beside, Unread}
-use Rattle.erst_interp.specs.Steps.{Waited, AtOnce, After, Step, Computes, Goes as GoesTo, Stalls, Takes, Stores, Changes, Compares, Moves, Refusal, NotRead, NotCompared, NotStored, NotChanged, Halt, Unknown, Unregistered, Outside, IsRefused, TooLong, Unpaid, NotCopied}
+use Rattle.erst_interp.specs.Steps.{Waited, AtOnce, After, Step, Computes, Goes as GoesTo, Stalls, Takes, Stores, Changes, Compares, Moves, Refusal, NotRead}
+use Rattle.erst_interp.specs.Steps.{NotCompared, NotStored, NotChanged, Halt, Unknown, Unregistered, Outside, IsRefused, TooLong, Unpaid, NotCopied}
 use Rattle.erst_interp.specs.Runs.{may_be_empty, HasEntry, NeedsNone, Walk, Begun, Then, Run, NoProgram, Finishes, Exhausted, Halts}
 
 -- what comes of an access with this answer: the space is reached, and where a fault was answered, by an access that answered it
@@ -67,7 +68,8 @@ step_reaches allows first task old d more new so step =
       | Stalls micros new has h ↦ Goes old _ new so h
       | Takes taken register x new has is h ↦ field_reaches allows first register task.entry.mask old (Ok x) new so h
       | Stores value register new has is h ↦ store_reaches allows first register task.entry value old (Ok tt) new so h
-      | Changes changed register x mid new has is h k ↦ store_reaches allows first register task.entry (changed x) mid (Ok tt) new (field_reaches allows first register task.entry.mask old (Ok x) mid so h) k
+      | Changes changed register x mid new has is h k ↦ store_reaches allows first register task.entry (changed x) mid (Ok tt) new
+          (field_reaches allows first register task.entry.mask old (Ok x) mid so h) k
       | Compares register x mid new has is h k ↦ field_reaches allows first register task.entry.mask mid (Ok x) new (waited_reaches allows first task.at old mid so h) k
       | Moves register x mid new has is h less k ↦ Goes mid _ new (field_reaches allows first register task.entry.mask old (Ok x) mid so h) k
     ]

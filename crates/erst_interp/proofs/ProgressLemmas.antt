@@ -22,7 +22,9 @@ use Rattle.erst_interp.specs.Configurations.{next}
 use Rattle.erst_interp.specs.Instructions.{HasWork, GoTo, TakeField, ChangeField, MoveBytes}
 use Rattle.erst_interp.specs.Works.{taken, changed, access_meaning}
 use Rattle.erst_interp.specs.Accesses.{FieldRead, Got, Refused, Store, Whole, Beside, Unread}
-use Rattle.erst_interp.specs.Steps.{blocks, AtOnce, After, Step, Computes, Goes, Stalls, Takes, Stores, Changes, Compares, Moves as MovesStep, NotRead, NotCompared, NotStored, NotChanged, Halt, Unknown, Unregistered, Outside, IsRefused, TooLong, Unpaid, NotCopied, Executes, GoesOn, Stops}
+use Rattle.erst_interp.specs.Steps.{blocks, AtOnce, After, Step, Computes, Goes, Stalls, Takes, Stores, Changes, Compares, Moves as MovesStep, NotRead}
+use Rattle.erst_interp.specs.Steps.{NotCompared, NotStored, NotChanged, Halt, Unknown, Unregistered, Outside, IsRefused, TooLong, Unpaid, NotCopied, Executes}
+use Rattle.erst_interp.specs.Steps.{GoesOn, Stops}
 use Rattle.erst_interp.specs.Demands.{call_of}
 use Rattle.erst_interp.specs.Continuing.{demand_of, storing, first_access, gone, located, resumed, Begins, IsUnknown, IsDone, IsGoto, IsStall, HasNoRegister, HasRegister}
 use Rattle.erst_interp.specs.Awaiting.{HasValue, IsGiven, IsMade, HasNumber, IsWhole, IsBeside, IsAwaited}
@@ -89,7 +91,8 @@ continues_gone allows task paid start to has =
       | false ↦ λ beyond. stops allows task paid start (GotoOutside task.at.place to) paid start refl (Outside to has (is_not_less _ _ beyond))
     ] refl
 
-pub continues_begins : {W : Type 0} (allows : W → Call → W → Type 0) (task : Task) (paid : ℕ) (start : W) (progress : Progress) → Begins task progress → Continues allows task paid start progress paid start
+pub continues_begins : {W : Type 0} (allows : W → Call → W → Type 0) (task : Task) (paid : ℕ) (start : W) (progress : Progress) → Begins task progress →
+    Continues allows task paid start progress paid start
 continues_begins allows task paid start progress begins = elim begins as (λ progress begins. Continues allows task paid start progress paid start) [
   | IsUnknown none ↦ Stops _ paid start (Unknown none)
   | IsDone d has ↦ goes_on allows task paid start d paid start refl (Computes d has)
@@ -158,17 +161,21 @@ continues_located allows task paid start register x left now e has ok read =
 at_start : {W : Type 0} (allows : W → Call → W → Type 0) (call : Call) (now start then_now : W) → now ≡ start → allows now call then_now → allows start call then_now
 at_start allows call now start then_now s h = subst (λ (w : _). allows w call then_now) s h
 
-copied : {W : Type 0} (allows : W → Call → W → Type 0) (source target len source_kept target_kept len_kept : ℕ) (answer : Result (Unit {0}) SpaceFault) (now then_now : W) → source ≡ source_kept → target ≡ target_kept → len ≡ len_kept →
+copied : {W : Type 0} (allows : W → Call → W → Type 0) (source target len source_kept target_kept len_kept : ℕ) (answer : Result (Unit {0}) SpaceFault)
+    (now then_now : W) → source ≡ source_kept → target ≡ target_kept → len ≡ len_kept →
     allows now (CopyCall source target len answer) then_now → allows now (CopyCall source_kept target_kept len_kept answer) then_now
 copied allows source target len source_kept target_kept len_kept answer now then_now a b c h =
-    subst (λ (n : ℕ). allows now (CopyCall source_kept target_kept n answer) then_now) c (subst (λ (n : ℕ). allows now (CopyCall source_kept n len answer) then_now) b (subst (λ (n : ℕ). allows now (CopyCall n target len answer) then_now) a h))
+    subst (λ (n : ℕ). allows now (CopyCall source_kept target_kept n answer) then_now) c
+    (subst (λ (n : ℕ). allows now (CopyCall source_kept n len answer) then_now) b (subst (λ (n : ℕ). allows now (CopyCall n target len answer) then_now) a h))
 
 -- an answer leads on
 pub continues_answer : {W : Type 0} (allows : W → Call → W → Type 0) (task : Task) (paid : ℕ) (start : W) (awaited : Awaited) (left : ℕ) (now : W) (answer : Result ℕ SpaceFault) (then_now : W) →
     IsAwaited allows task paid start awaited left now → allows now (call_of (demand_of task awaited) answer) then_now →
     Continues allows task paid start (resumed task awaited left answer).0 (resumed task awaited left answer).1 then_now
-continues_answer allows task paid start (Stall micros) left now (Ok n) then_now w h = goes_on allows task paid start _ left then_now w.0 (Stalls micros then_now w.2 (at_start allows _ now start then_now w.1 h))
-continues_answer allows task paid start (Stall micros) left now (Err f) then_now w h = goes_on allows task paid start _ left then_now w.0 (Stalls micros then_now w.2 (at_start allows _ now start then_now w.1 h))
+continues_answer allows task paid start (Stall micros) left now (Ok n) then_now w h = goes_on allows task paid start _ left then_now w.0
+    (Stalls micros then_now w.2 (at_start allows _ now start then_now w.1 h))
+continues_answer allows task paid start (Stall micros) left now (Err f) then_now w h = goes_on allows task paid start _ left then_now w.0
+    (Stalls micros then_now w.2 (at_start allows _ now start then_now w.1 h))
 continues_answer allows task paid start (Delay register) left now (Ok n) then_now w h = (w.0, w.2, w.3, After then_now w.4 (at_start allows _ now start then_now w.1 h))
 continues_answer allows task paid start (Delay register) left now (Err f) then_now w h = (w.0, w.2, w.3, After then_now w.4 (at_start allows _ now start then_now w.1 h))
 continues_answer allows task paid start (Compared register) left now (Ok n) then_now w h =
@@ -176,14 +183,18 @@ continues_answer allows task paid start (Compared register) left now (Ok n) then
 continues_answer allows task paid start (Compared register) left now (Err f) then_now w h =
     stops allows task paid start _ left then_now w.0 (IsRefused f then_now (NotCompared register f now then_now w.1 w.2 w.3 (Refused f then_now h)))
 continues_answer allows task paid start (Taken register how) left now (Ok n) then_now w h =
-    goes_on allows task paid start _ left then_now w.0 (Takes (taken how task) register (field n register.offset task.entry.mask) then_now w.2 w.3 (Got n then_now (at_start allows _ now start then_now w.1 h)))
+    goes_on allows task paid start _ left then_now w.0 (Takes (taken how task) register (field n register.offset task.entry.mask) then_now w.2 w.3
+    (Got n then_now (at_start allows _ now start then_now w.1 h)))
 continues_answer allows task paid start (Taken register how) left now (Err f) then_now w h =
-    stops allows task paid start _ left then_now w.0 (IsRefused f then_now (NotRead (TakeField (taken how task)) register f then_now w.2 refl w.3 (Refused f then_now (at_start allows _ now start then_now w.1 h))))
+    stops allows task paid start _ left then_now w.0
+    (IsRefused f then_now (NotRead (TakeField (taken how task)) register f then_now w.2 refl w.3
+    (Refused f then_now (at_start allows _ now start then_now w.1 h))))
 continues_answer allows task paid start (Changed register how) left now (Ok n) then_now w h =
     awaits_storing allows task paid start register (changed how task (field n register.offset task.entry.mask)) left then_now w.0
     (IsMade (changed how task) (field n register.offset task.entry.mask) then_now w.2 (Got n then_now (at_start allows _ now start then_now w.1 h))) w.3
 continues_answer allows task paid start (Changed register how) left now (Err f) then_now w h =
-    stops allows task paid start _ left then_now w.0 (IsRefused f then_now (NotRead (ChangeField (changed how task)) register f then_now w.2 refl w.3 (Refused f then_now (at_start allows _ now start then_now w.1 h))))
+    stops allows task paid start _ left then_now w.0 (IsRefused f then_now (NotRead (ChangeField (changed how task)) register f then_now w.2 refl w.3
+    (Refused f then_now (at_start allows _ now start then_now w.1 h))))
 continues_answer allows task paid start (Kept register value) left now (Ok n) then_now w h = (w.0, IsBeside value now n then_now w.1 w.2 h, w.3)
 continues_answer allows task paid start (Kept register value) left now (Err f) then_now w h =
     stores allows task paid start register value left now (Err f) then_now w.0 w.1 w.3 (Unread f then_now w.2 h)
@@ -204,10 +215,12 @@ continues_answer allows task paid start (Copied source target len) left now (Err
     (Stops _ _ then_now (NotCopied w.register w.x f now then_now w.work w.region w.read w.small enough (copied allows source target len _ _ _ (Err f) now then_now w.source_is w.target_is w.len_is h)))
 
 -- the same in the pieces that the loop over the accesses has
-pub continues_first : {W : Type 0} (allows : W → Call → W → Type 0) (task : Task) (paid : ℕ) (start : W) (progress so : Progress) → Begins task progress → progress ≡ so → Continues allows task paid start so paid start
+pub continues_first : {W : Type 0} (allows : W → Call → W → Type 0) (task : Task) (paid : ℕ) (start : W) (progress so : Progress) → Begins task progress →
+    progress ≡ so → Continues allows task paid start so paid start
 continues_first allows task paid start progress so begins is = subst (λ (p : Progress). Continues allows task paid start p paid start) is (continues_begins allows task paid start progress begins)
 
-pub continues_on : {W : Type 0} (allows : W → Call → W → Type 0) (task : Task) (paid : ℕ) (start : W) (awaited : Awaited) (demand : Demand) (left : ℕ) (now : W) (answer : Result ℕ SpaceFault) (then_now : W)
+pub continues_on : {W : Type 0} (allows : W → Call → W → Type 0) (task : Task) (paid : ℕ) (start : W) (awaited : Awaited) (demand : Demand) (left : ℕ) (now : W)
+    (answer : Result ℕ SpaceFault) (then_now : W)
     (progress so : Progress) (after : ℕ) → IsAwaited allows task paid start awaited left now → demand ≡ demand_of task awaited → allows now (call_of demand answer) then_now →
     progress ≡ (resumed task awaited left answer).0 → after ≡ (resumed task awaited left answer).1 → progress ≡ so → Continues allows task paid start so after then_now
 continues_on allows task paid start awaited demand left now answer then_now progress so after waits told h progress_is after_is is =

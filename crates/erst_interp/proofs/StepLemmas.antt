@@ -16,7 +16,8 @@ use Rattle.erst_interp.specs.declared.stops.RunStop.TheVariants.{Budget, Goto as
 use Rattle.erst_interp.specs.Instructions.{Work, GoOn, GoTo, WaitFor, TakeField, StoreValue, ChangeField, CompareField, MoveBytes, work_of, HasWork, uses_register, reads_first}
 use Rattle.erst_interp.specs.Configurations.{next}
 use Rattle.erst_interp.specs.Accesses.{FieldRead, Store}
-use Rattle.erst_interp.specs.Steps.{blocks, Step, Computes, Goes, Stalls, Takes, Stores, Changes, Compares, Moves, Refusal, NotRead, NotCompared, NotStored, NotChanged, Halt, Unknown, Unregistered, Outside, IsRefused, TooLong, Unpaid, NotCopied}
+use Rattle.erst_interp.specs.Steps.{blocks, Step, Computes, Goes, Stalls, Takes, Stores, Changes, Compares, Moves, Refusal, NotRead, NotCompared, NotStored}
+use Rattle.erst_interp.specs.Steps.{NotChanged, Halt, Unknown, Unregistered, Outside, IsRefused, TooLong, Unpaid, NotCopied}
 use Rattle.erst_interp.proofs.Terms.{move_limit, copy_of, compared}
 
 -- an entry has one instruction, and so one work
@@ -65,13 +66,15 @@ abbrev pub RefusedBy : {W : Type 0} → (W → Call → W → Type 0) → Task �
 RefusedBy allows task old (GoOn e) new = ⊥
 RefusedBy allows task old (GoTo to) new = ⊥
 RefusedBy allows task old (WaitFor micros) new = ⊥
-RefusedBy allows task old (TakeField taken) new = (register : Register) × (fault : SpaceFault) × (checked task.entry.region ≡ Ok register) × FieldRead allows register task.entry.mask old (Err fault) new
+RefusedBy allows task old (TakeField taken) new = (register : Register) × (fault : SpaceFault) × (checked task.entry.region ≡ Ok register) × FieldRead allows
+    register task.entry.mask old (Err fault) new
 RefusedBy allows task old (StoreValue value) new = (register : Register) × (fault : SpaceFault) × (checked task.entry.region ≡ Ok register) × Store allows register task.entry value old (Err fault) new
 RefusedBy allows task old (ChangeField changed) new = Unit {0}
 RefusedBy allows task old CompareField new = Unit {0}
 RefusedBy allows task old MoveBytes new = (register : Register) × (fault : SpaceFault) × (checked task.entry.region ≡ Ok register) × FieldRead allows register task.entry.mask old (Err fault) new
 
-not_read : {W : Type 0} (allows : W → Call → W → Type 0) (task : Task) (old : W) (work : Work) (register : Register) (fault : SpaceFault) (new : W) → reads_first work ≡ true → checked task.entry.region ≡ Ok register
+not_read : {W : Type 0} (allows : W → Call → W → Type 0) (task : Task) (old : W) (work : Work) (register : Register) (fault : SpaceFault) (new : W) →
+    reads_first work ≡ true → checked task.entry.region ≡ Ok register
     → FieldRead allows register task.entry.mask old (Err fault) new → RefusedBy allows task old work new
 not_read allows task old (GoOn e) register fault new early region h = absurd (cc early)
 not_read allows task old (GoTo to) register fault new early region h = absurd (cc early)
@@ -85,7 +88,8 @@ not_read allows task old MoveBytes register fault new early region h = (register
 refused_by : {W : Type 0} (allows : W → Call → W → Type 0) (task : Task) (i : Instruction) → instruction_of task.entry.code ≡ Some i → (old : W) (fault : SpaceFault) (new : W)
     → Refusal allows task old fault new → RefusedBy allows task old (work_of task i) new
 refused_by allows task i code old fault new refusal = elim refusal as (λ fault new refusal. RefusedBy allows task old (work_of task i) new) [
-  | NotRead work register fault new has early region h ↦ subst (λ (w : Work). RefusedBy allows task old w new) (the_work task i work code has) (not_read allows task old work register fault new early region h)
+  | NotRead work register fault new has early region h ↦ subst (λ (w : Work). RefusedBy allows task old w new) (the_work task i work code has)
+      (not_read allows task old work register fault new early region h)
   | NotCompared register fault mid new has region h k ↦ subst (λ (w : Work). RefusedBy allows task old w new) (the_work task i CompareField code has) tt
   | NotStored value register fault new has region h ↦ subst (λ (w : Work). RefusedBy allows task old w new) (the_work task i (StoreValue value) code has) (register, fault, region, h)
   | NotChanged changed register x fault mid new has region h k ↦ subst (λ (w : Work). RefusedBy allows task old w new) (the_work task i (ChangeField changed) code has) tt
@@ -93,10 +97,12 @@ refused_by allows task i code old fault new refusal = elim refusal as (λ fault 
 
 -- why a MOVE_DATA stopped
 pub data MoveHalt {W : Type 0} (allows : W → Call → W → Type 0) (task : Task) (paid : ℕ) (old : W) : RunStop → ℕ → W → Type 0 where
-  IsUnpaid : (register : Register) (x : ℕ) (new : W) → checked task.entry.region ≡ Ok register → FieldRead allows register task.entry.mask old (Ok x) new → paid < blocks task.at.var2 → MoveHalt allows task paid old Budget 0 new
+  IsUnpaid : (register : Register) (x : ℕ) (new : W) → checked task.entry.region ≡ Ok register → FieldRead allows register task.entry.mask old (Ok x) new →
+      paid < blocks task.at.var2 → MoveHalt allows task paid old Budget 0 new
   IsTooLong : (stop : RunStop) (left : ℕ) (new : W) → move_limit < task.at.var2 → MoveHalt allows task paid old stop left new
   IsNotRead : (stop : RunStop) (left : ℕ) (new : W) → RefusedBy allows task old MoveBytes new → MoveHalt allows task paid old stop left new
-  IsNotCopied : (stop : RunStop) (left : ℕ) (register : Register) (x : ℕ) (fault : SpaceFault) (mid new : W) → checked task.entry.region ≡ Ok register → FieldRead allows register task.entry.mask old (Ok x) mid
+  IsNotCopied : (stop : RunStop) (left : ℕ) (register : Register) (x : ℕ) (fault : SpaceFault) (mid new : W) → checked task.entry.region ≡ Ok register →
+      FieldRead allows register task.entry.mask old (Ok x) mid
       → allows mid (copy_of task.at x (Err fault)) new → MoveHalt allows task paid old stop left new
 
 -- why an instruction stopped, where its register is one
@@ -110,7 +116,8 @@ HaltBy allows task paid old (ChangeField changed) stop left new = Unit {0}
 HaltBy allows task paid old CompareField stop left new = Unit {0}
 HaltBy allows task paid old MoveBytes stop left new = MoveHalt allows task paid old stop left new
 
-halt_refused : {W : Type 0} (allows : W → Call → W → Type 0) (task : Task) (paid : ℕ) (old : W) (work : Work) (stop : RunStop) (left : ℕ) (new : W) → RefusedBy allows task old work new → HaltBy allows task paid old work stop left new
+halt_refused : {W : Type 0} (allows : W → Call → W → Type 0) (task : Task) (paid : ℕ) (old : W) (work : Work) (stop : RunStop) (left : ℕ) (new : W) →
+    RefusedBy allows task old work new → HaltBy allows task paid old work stop left new
 halt_refused allows task paid old (GoOn e) stop left new refused = refused
 halt_refused allows task paid old (GoTo to) stop left new refused = absurd refused
 halt_refused allows task paid old (WaitFor micros) stop left new refused = refused
@@ -137,8 +144,10 @@ halt_by allows task i code region_is paid old stop left new halt = elim halt as 
       absurd (no_register register.0 why (checked task.entry.region) register.1 region)
   | Outside to has beyond ↦ subst (λ (w : Work). HaltBy allows task paid old w (GotoOutside task.at.place to) paid old) (the_work task i (GoTo to) code has) beyond
   | IsRefused fault new h ↦ halt_refused allows task paid old (work_of task i) (Space task.at.place fault) paid new (refused_by allows task i code old fault new h)
-  | TooLong register x new has region h more ↦ subst (λ (w : Work). HaltBy allows task paid old w (MoveTooLong task.at.place task.at.var2) paid new) (the_work task i MoveBytes code has) (IsTooLong (MoveTooLong task.at.place task.at.var2) paid new more)
+  | TooLong register x new has region h more ↦ subst (λ (w : Work). HaltBy allows task paid old w (MoveTooLong task.at.place task.at.var2) paid new)
+      (the_work task i MoveBytes code has) (IsTooLong (MoveTooLong task.at.place task.at.var2) paid new more)
   | Unpaid register x new has region h less short ↦ subst (λ (w : Work). HaltBy allows task paid old w Budget 0 new) (the_work task i MoveBytes code has) (IsUnpaid register x new region h short)
   | NotCopied register x fault mid new has region h less enough k ↦
-      subst (λ (w : Work). HaltBy allows task paid old w (Space task.at.place fault) (paid - blocks task.at.var2) new) (the_work task i MoveBytes code has) (IsNotCopied (Space task.at.place fault) (paid - blocks task.at.var2) register x fault mid new region h k)
+      subst (λ (w : Work). HaltBy allows task paid old w (Space task.at.place fault) (paid - blocks task.at.var2) new) (the_work task i MoveBytes code has)
+      (IsNotCopied (Space task.at.place fault) (paid - blocks task.at.var2) register x fault mid new region h k)
 ]

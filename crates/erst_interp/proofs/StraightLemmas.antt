@@ -29,7 +29,8 @@ whole_of allows register entry value old answer new done plain =
       | Unread fault new keeps h ↦ absurd (keeps plain)
     ]
 
-pub got_of : {W : Type 0} (allows : W → Call → W → Type 0) (register : Register) (mask : ℕ) (old : W) (answer : Result ℕ SpaceFault) (new : W) (x : ℕ) → FieldRead allows register mask old answer new → answer ≡ Ok x →
+pub got_of : {W : Type 0} (allows : W → Call → W → Type 0) (register : Register) (mask : ℕ) (old : W) (answer : Result ℕ SpaceFault) (new : W) (x : ℕ) →
+    FieldRead allows register mask old answer new → answer ≡ Ok x →
     (number : ℕ) × ((x ≡ field number register.offset mask) × allows old (Read register.place register.access (Ok number)) new)
 got_of allows register mask old answer new x read =
     elim read as (λ answer new read. answer ≡ Ok x → (number : ℕ) × ((x ≡ field number register.offset mask) × allows old (Read register.place register.access (Ok number)) new)) [
@@ -37,7 +38,8 @@ got_of allows register mask old answer new x read =
       | Refused fault new h ↦ λ e. absurd (cc)
     ]
 
-pub refused_of : {W : Type 0} (allows : W → Call → W → Type 0) (register : Register) (mask : ℕ) (old : W) (answer : Result ℕ SpaceFault) (new : W) (fault : SpaceFault) → FieldRead allows register mask old answer new → answer ≡ Err fault →
+pub refused_of : {W : Type 0} (allows : W → Call → W → Type 0) (register : Register) (mask : ℕ) (old : W) (answer : Result ℕ SpaceFault) (new : W)
+    (fault : SpaceFault) → FieldRead allows register mask old answer new → answer ≡ Err fault →
     allows old (Read register.place register.access (Err fault)) new
 refused_of allows register mask old answer new fault read =
     elim read as (λ answer new read. answer ≡ Err fault → allows old (Read register.place register.access (Err fault)) new) [
@@ -52,7 +54,8 @@ pub record DoesStep {W : Type 0} (allows : W → Call → W → Type 0) (program
   pub place : d.place ≡ c.place + 1
   pub does : Does allows program given entry straight c old d new
 
-pub step_does : {W : Type 0} (allows : W → Call → W → Type 0) (program : Listed) (given : ℕ) (entry : Entry) (straight : IsStraight entry) (c : Configuration) (old : W) (d : Configuration) (more : ℕ) (new : W) →
+pub step_does : {W : Type 0} (allows : W → Call → W → Type 0) (program : Listed) (given : ℕ) (entry : Entry) (straight : IsStraight entry) (c : Configuration)
+    (old : W) (d : Configuration) (more : ℕ) (new : W) →
     Step allows (task_of program given entry c) old d more new → DoesStep allows program given entry straight c old d more new
 step_does allows program given entry (TakesOnly i taken register code work on region) c old d more new step =
     let task : Task = task_of program given entry c in
@@ -70,7 +73,8 @@ step_does allows program given entry (StoresOnly i value register code work flag
     let wrote = subst (λ (r : Register). Store allows r entry (value task) old (Ok tt) new) (same_register register did.0 (checked entry.region) region did.3) did.4 in
     record { only = did.2; place = ap (λ (b : Configuration). b.place) did.1; does = (did.1, whole_of allows register entry (value task) old (Ok tt) new wrote flags) }
 
-pub halt_never : {W : Type 0} (allows : W → Call → W → Type 0) (program : Listed) (given : ℕ) (entry : Entry) (straight : IsStraight entry) → Serves allows entry straight → (c : Configuration) (paid : ℕ) (old : W)
+pub halt_never : {W : Type 0} (allows : W → Call → W → Type 0) (program : Listed) (given : ℕ) (entry : Entry) (straight : IsStraight entry) →
+    Serves allows entry straight → (c : Configuration) (paid : ℕ) (old : W)
     (stop : RunStop) (left : ℕ) (new : W) → Halt allows (task_of program given entry c) paid old stop left new → ⊥
 halt_never allows program given entry (TakesOnly i taken register code work on region) serves c paid old stop left new halt =
     let task : Task = task_of program given entry c in
@@ -92,7 +96,8 @@ nth allows (head ∷ rest) (OneEntry same others one serves more) zero entry her
 nth allows (head ∷ rest) (OneEntry same others one serves more) (suc n) entry here = nth allows rest more n entry here
 
 -- one entry more is done
-one_more : {W : Type 0} (allows : W → Call → W → Type 0) (program : Listed) (given : ℕ) (entries : List Entry) (straight : AreStraight allows entries) (n : ℕ) (b : Configuration) (first : W) (c : Configuration) (mid : W)
+one_more : {W : Type 0} (allows : W → Call → W → Type 0) (program : Listed) (given : ℕ) (entries : List Entry) (straight : AreStraight allows entries) (n : ℕ)
+    (b : Configuration) (first : W) (c : Configuration) (mid : W)
     (entry : Entry) (d : Configuration) (last : W) → DoFirst allows program given entries straight n b first c mid → slice_get entries n ≡ Some entry →
     ((one : IsStraight entry) → Does allows program given entry one c mid d last) → DoFirst allows program given entries straight (suc n) b first d last
 one_more allows program given [] NoEntry n b first c mid entry d last done here does = absurd (none-some entry here)
@@ -105,12 +110,14 @@ one_more allows program given (e ∷ rest) (OneEntry same others one serves more
     (done.0, (done.1.0, (done.1.1.0, one_more allows program given rest more n done.0 done.1.0 c mid entry d last done.1.1.1 here does)))
 
 -- how far a walk has come
-record IsAt {W : Type 0} (allows : W → Call → W → Type 0) (program : Listed) (straight : AreStraight allows program.entries) (given budget : ℕ) (first : W) (left : ℕ) (c : Configuration) (last : W) : Type 0 where
+record IsAt {W : Type 0} (allows : W → Call → W → Type 0) (program : Listed) (straight : AreStraight allows program.entries) (given budget : ℕ) (first : W)
+    (left : ℕ) (c : Configuration) (last : W) : Type 0 where
   done : DoFirst allows program given program.entries straight c.place begin first c last
   spent : left + c.place ≡ budget
   within : c.place ≤ length program.entries
 
-walks_straight : {W : Type 0} (allows : W → Call → W → Type 0) (program : Listed) (straight : AreStraight allows program.entries) (given budget : ℕ) (first : W) (left : ℕ) (c : Configuration) (last : W) →
+walks_straight : {W : Type 0} (allows : W → Call → W → Type 0) (program : Listed) (straight : AreStraight allows program.entries) (given budget : ℕ) (first : W)
+    (left : ℕ) (c : Configuration) (last : W) →
     Walk allows program given budget first left c last → IsAt allows program straight given budget first left c last
 walks_straight allows program straight given budget first left c last Begun = record { done = (refl, refl); spent = omega arith; within = omega arith }
 walks_straight allows program straight given budget first left c last (Then before from mid entry d more after new walk here step sum) =

@@ -53,13 +53,16 @@ stands_advance allows program given budget first now c left state after advances
     elim advances as (λ state after advances. Stands allows program given budget first state after now) [
       | IsEnded answer after turns ↦ stands_turn allows program given budget first now c left (Some answer) after turns has walked
       | IsBegun entry progress after turns here begins ↦
-          stands_progress allows program given budget first after now c entry has (stands_turn allows program given budget first now c left None after turns has walked) here (task_of program given entry c) refl progress
+          stands_progress allows program given budget first after now c entry has (stands_turn allows program given budget first now c left None after turns has
+          walked) here (task_of program given entry c) refl progress
           after now (continues_begins allows (task_of program given entry c) after now progress begins)
     ]
 
 -- the instruction that a run comes to is carried out
-pub walks_by : {W : Type 0} (allows : W → Call → W → Type 0) (program : Listed) (given budget : ℕ) (first now : W) (c : Configuration) (left paid : ℕ) (task : Task) (answer : Result Configuration RunStop) (after : ℕ) (new : W) →
-    Turns program given c left None paid → HasProgram program → Walk allows program given budget first left c now → task ≡ task_of program given task.entry c → slice_get program.entries c.place ≡ Some task.entry →
+pub walks_by : {W : Type 0} (allows : W → Call → W → Type 0) (program : Listed) (given budget : ℕ) (first now : W) (c : Configuration) (left paid : ℕ)
+    (task : Task) (answer : Result Configuration RunStop) (after : ℕ) (new : W) →
+    Turns program given c left None paid → HasProgram program → Walk allows program given budget first left c now → task ≡ task_of program given task.entry c →
+    slice_get program.entries c.place ≡ Some task.entry →
     Executes allows task paid now answer after new → WalksOn allows program given budget first answer after new
 walks_by allows program given budget first now c left paid task answer after new turns has walked task_is here executes =
     walks_on allows program given budget first paid c now task.entry answer after new has (stands_turn allows program given budget first now c left None paid turns has walked) here
@@ -74,11 +77,13 @@ stands_comes allows program given budget first now old before state left (Furthe
     stands_advance allows program given budget first now c kept further after advances at.0 at.1
 
 -- and so does an answer
-pub stands_answered : {W : Type 0} (allows : W → Call → W → Type 0) (program : Listed) (given budget : ℕ) (first : W) (task : Task) (awaited : Awaited) (left : ℕ) (now : W) (answer : Result ℕ SpaceFault)
+pub stands_answered : {W : Type 0} (allows : W → Call → W → Type 0) (program : Listed) (given budget : ℕ) (first : W) (task : Task) (awaited : Awaited)
+    (left : ℕ) (now : W) (answer : Result ℕ SpaceFault)
     (last : W) → Stands allows program given budget first (Awaiting task awaited) left now → allows now (call_of (demand_of task awaited) answer) last →
     Stands allows program given budget first (answered (Awaiting task awaited) left answer).0 (answered (Awaiting task awaited) left answer).1 last
 stands_answered allows program given budget first task awaited left now answer last so h =
-    stands_progress allows program given budget first so.paid so.start so.c so.entry so.has so.walked so.here task so.task_is (resumed task awaited left answer).0 (resumed task awaited left answer).1 last
+    stands_progress allows program given budget first so.paid so.start so.c so.entry so.has so.walked so.here task so.task_is
+    (resumed task awaited left answer).0 (resumed task awaited left answer).1 last
     (continues_answer allows task so.paid so.start awaited left now answer last so.waits h)
 
 -- a run stands at its beginning

@@ -1,7 +1,9 @@
 -- The table of serialization instructions (ACPI 6.4, section 18.5.1.2).
 use Rattle.std.specs.Prelude.{◌≡◌, ℕ, ◌+◌, ◌-◌, ◌%◌, ◌^◌, ◌==◌, if◌then◌else◌, Bool, true, false, Some}
 use Rattle.erst_entries.specs.declared.instructions.Instruction.{Instruction}
-use Rattle.erst_entries.specs.declared.instructions.Instruction.TheVariants.{ReadRegister, ReadRegisterValue, WriteRegister, WriteRegisterValue, Noop, LoadVar1, LoadVar2, StoreVar1, Add, Subtract, AddValue, SubtractValue, Stall, StallWhileTrue, SkipNextIfTrue, Goto, SetSourceBase, SetTargetBase, MoveData}
+use Rattle.erst_entries.specs.declared.instructions.Instruction.TheVariants.{ReadRegister, ReadRegisterValue, WriteRegister, WriteRegisterValue, Noop, LoadVar1}
+use Rattle.erst_entries.specs.declared.instructions.Instruction.TheVariants.{LoadVar2, StoreVar1, Add, Subtract, AddValue, SubtractValue, Stall, StallWhileTrue}
+use Rattle.erst_entries.specs.declared.instructions.Instruction.TheVariants.{SkipNextIfTrue, Goto, SetSourceBase, SetTargetBase, MoveData}
 use Rattle.erst_entries.specs.Instructions.{instruction_of}
 use Rattle.erst_interp.specs.declared.configurations.Configuration.{Configuration}
 use Rattle.erst_interp.specs.declared.configurations.Task.{Task}

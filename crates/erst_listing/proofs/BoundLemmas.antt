@@ -20,7 +20,8 @@ use Rattle.erst_listing.proofs.HeardLemmas.{heard_lowers, room_heard}
 pub record AskingBounds : Type 0 where
   pub begins : (entries : List Entry) (action : Action) (steps : ℕ) → bound (asking_first entries action steps).state steps ≤ 4 * steps
   pub moves : (entries : List Entry) (old at : Asking) → AskingMoves entries old at → bound at.state at.left ≤ bound old.state old.left
-  pub answered : (at : Asking) (answer : Result ℕ SpaceFault) (demand : Demand) → demanded at.state ≡ Some demand → bound (asking_answered at answer).state (asking_answered at answer).left < bound at.state at.left
+  pub answered : (at : Asking) (answer : Result ℕ SpaceFault) (demand : Demand) → demanded at.state ≡ Some demand → bound (asking_answered at answer).state
+      (asking_answered at answer).left < bound at.state at.left
 
 -- one question fewer
 fewer : (n m x : ℕ) → n < m → n * x + x ≤ m * x
@@ -36,7 +37,8 @@ module _ (bounds : AskingBounds) (entries : List Entry) (steps : ℕ) where
   bound_heard : (listed : ℕ) (ended_once : Bool) (asking : Asking) (held : List ℕ) (answer : Result (Option ℕ) ClientError) (heard : Listing) (after : List ℕ) → listed ≤ length held →
       IsHeard entries steps listed ended_once held answer heard after → listing_bound steps (length held) heard ≤ listing_bound steps (length held) (Asks listed ended_once asking)
   bound_heard listed ended_once asking held answer heard after fits how =
-      elim how as (λ (answer : Result (Option ℕ) ClientError) (heard : Listing) (after : List ℕ) how. listing_bound steps (length held) heard ≤ listing_bound steps (length held) (Asks listed ended_once asking)) [
+      elim how as (λ (answer : Result (Option ℕ) ClientError) (heard : Listing) (after : List ℕ) how. listing_bound steps (length held) heard ≤ listing_bound
+      steps (length held) (Asks listed ended_once asking)) [
         | IsOver answer result ends ↦ omega arith
         | IsAsked answer count ends after on counts same rest ↦
             let fewer_left = heard_lowers entries steps listed ended_once held count ends answer after fits counts on in
@@ -56,7 +58,8 @@ module _ (bounds : AskingBounds) (entries : List Entry) (steps : ℕ) where
   has_moved old before at after fits (Hears listed ended_once was asking held answer heard later moves runs named how) =
       let from = has_moved old before (Asks listed ended_once was) held fits moves in
       let room = room_heard entries steps listed ended_once held answer heard later from.fits how in
-      let less = subst (λ (n : ℕ). listing_bound steps n heard ≤ listing_bound steps n (Asks listed ended_once was)) from.same (bound_heard listed ended_once was held answer heard later from.fits how) in
+      let less = subst (λ (n : ℕ). listing_bound steps n heard ≤ listing_bound steps n (Asks listed ended_once was)) from.same
+      (bound_heard listed ended_once was held answer heard later from.fits how) in
       let less_from = from.less in
       record { fits = room.0; same = room.1 ∙ from.same; less = omega (arith, less, less_from) }
   has_moved old before at after fits (Runs listed ended_once was asking held moves runs) =
@@ -65,7 +68,8 @@ module _ (bounds : AskingBounds) (entries : List Entry) (steps : ℕ) where
       let less_from = from.less in
       record { fits = from.fits; same = from.same; less = omega (arith, less, less_from) }
 
-  pub bound_moves : (old at : Listing) (before after : List ℕ) → listed_by old ≤ length before → ListingMoves entries steps old before at after → listing_bound steps (length before) at ≤ listing_bound steps (length before) old
+  pub bound_moves : (old at : Listing) (before after : List ℕ) → listed_by old ≤ length before → ListingMoves entries steps old before at after →
+      listing_bound steps (length before) at ≤ listing_bound steps (length before) old
   bound_moves old at before after fits moves = (has_moved old before at after fits moves).less
 
 pub bound_answered : AskingBounds → (steps room : ℕ) (at : Listing) (answer : Result ℕ SpaceFault) (demand : Demand) → listing_demanded at ≡ Some demand →

@@ -150,14 +150,17 @@ module _ (told : Told) (order : IsInOrder told) where
       | TellsAllOnes none ↦ λ e. so.begun is other holds (none other holds)
     ]) refl
 
-    all_there : (room : ℕ) (answer : Result (Option ℕ) ClientError) (result : Result (Unit {0}) ListError) (last : ℕ) → result ≡ Ok tt → Tells told at answer last → Ends room ids ended_once answer result →
+    all_there : (room : ℕ) (answer : Result (Option ℕ) ClientError) (result : Result (Unit {0}) ListError) (last : ℕ) → result ≡ Ok tt →
+        Tells told at answer last → Ends room ids ended_once answer result →
         (other : ℕ) → told.has other ≡ true → Contains ids other
-    all_there room answer result last is tells ends other holds = (elim ends as (λ (answer : Result (Option ℕ) ClientError) (result : Result (Unit {0}) ListError) ends. result ≡ Ok tt → Tells told at answer last → Contains ids other) [
-      | ComesAgain id has ↦ λ e tells. again id last has tells other holds
-      | EndsAgain is ↦ λ e tells. none_again last is tells other holds
-      | HasNoRoom id misses full ↦ λ e tells. absurd (cc e)
-      | IsRefused error ↦ λ e tells. absurd (cc e)
-    ]) is tells
+    all_there room answer result last is tells ends other holds =
+        (elim ends as (λ (answer : Result (Option ℕ) ClientError) (result : Result (Unit {0}) ListError) ends. result ≡ Ok tt → Tells told at answer last →
+        Contains ids other) [
+          | ComesAgain id has ↦ λ e tells. again id last has tells other holds
+          | EndsAgain is ↦ λ e tells. none_again last is tells other holds
+          | HasNoRoom id misses full ↦ λ e tells. absurd (cc e)
+          | IsRefused error ↦ λ e tells. absurd (cc e)
+        ]) is tells
 
   walked : (room first : ℕ) (ids : List ℕ) (ended_once : Bool) (last : ℕ) → Gathers (Tells told) room first ids ended_once last → HasWalked told ids ended_once last
   walked room first ids ended_once last NoneAsked = walked_none first
@@ -183,14 +186,17 @@ was_told told at id last tells = (elim tells as (λ (answer : Result (Option ℕ
   | TellsAllOnes none ↦ λ e. absurd (cc e)
 ]) refl
 
-left_out : (told : Told) (room at : ℕ) (ids : List ℕ) (ended_once : Bool) (answer : Result (Option ℕ) ClientError) (result : Result (Unit {0}) ListError) (last : ℕ) → result ≡ Err Full → Tells told at answer last →
+left_out : (told : Told) (room at : ℕ) (ids : List ℕ) (ended_once : Bool) (answer : Result (Option ℕ) ClientError) (result : Result (Unit {0}) ListError)
+    (last : ℕ) → result ≡ Err Full → Tells told at answer last →
     Ends room ids ended_once answer result → LeavesOut told room ids
-left_out told room at ids ended_once answer result last is tells ends = (elim ends as (λ (answer : Result (Option ℕ) ClientError) (result : Result (Unit {0}) ListError) ends. result ≡ Err Full → Tells told at answer last → LeavesOut told room ids) [
-  | ComesAgain id has ↦ λ e tells. absurd (cc e)
-  | EndsAgain is ↦ λ e tells. absurd (cc e)
-  | HasNoRoom id misses full ↦ λ e tells. record { id = id; has = was_told told at id last tells; misses = misses; full = full }
-  | IsRefused error ↦ λ e tells. absurd (cc e)
-]) is tells
+left_out told room at ids ended_once answer result last is tells ends =
+    (elim ends as (λ (answer : Result (Option ℕ) ClientError) (result : Result (Unit {0}) ListError) ends. result ≡ Err Full → Tells told at answer last →
+    LeavesOut told room ids) [
+      | ComesAgain id has ↦ λ e tells. absurd (cc e)
+      | EndsAgain is ↦ λ e tells. absurd (cc e)
+      | HasNoRoom id misses full ↦ λ e tells. record { id = id; has = was_told told at id last tells; misses = misses; full = full }
+      | IsRefused error ↦ λ e tells. absurd (cc e)
+    ]) is tells
 
 pub none_for_it : (told : Told) (room at : ℕ) (ids : List ℕ) (last : ℕ) → Lists (Tells told) room at (Err Full) ids last → (length ids ≡ room) × (id : ℕ) × (told.has id ≡ true) × (Contains ids id → ⊥)
 none_for_it told room at ids last lists =

@@ -25,7 +25,8 @@ one_more asks room ids ended_once answer more ends old new so asked on = (elim o
   | EndsOnce first ↦ λ asked. so
 ]) asked
 
-pub gathered : {W : Type 0} (asks : W → Result (Option ℕ) ClientError → W → Type 0) (room : ℕ) (first : W) (ids : List ℕ) (ended_once : Bool) (last : W) → Gathers asks room first ids ended_once last → IsGathered asks room ids
+pub gathered : {W : Type 0} (asks : W → Result (Option ℕ) ClientError → W → Type 0) (room : ℕ) (first : W) (ids : List ℕ) (ended_once : Bool) (last : W) →
+    Gathers asks room first ids ended_once last → IsGathered asks room ids
 gathered asks room first ids ended_once last NoneAsked = record { fits = omega arith; distinct = tt; answered = λ id has. absurd (none_in id has) }
 gathered asks room first ids ended_once last (OneAsked before was mid answer more ends after gathers asked on) =
     one_more asks room before was answer more ends mid after (gathered asks room first before was mid gathers) asked on

@@ -13,17 +13,20 @@ use Rattle.erst_listing.specs.Listing.{IsHeard, IsOver, IsAsked, asked, question
 use Rattle.erst_listing.proofs.Lists.{length_more}
 
 -- an answer behind which one more question comes leaves one question fewer
-on_lowers : (room : ℕ) (ids : List ℕ) (ended_once : Bool) (answer : Option ℕ) (more : List ℕ) (ends : Bool) → GoesOn room ids ended_once answer more ends → questions_left room (length more) ends < questions_left room (length ids) ended_once
-on_lowers room ids ended_once answer more ends on = elim on as (λ (answer : Option ℕ) (more : List ℕ) (ends : Bool) on. questions_left room (length more) ends < questions_left room (length ids) ended_once) [
-  | IsNew id more misses fits is ↦ fewer more (ap length is ∙ length_more ids id) fits
-  | EndsOnce first ↦ subst (λ (b : Bool). questions_left room (length ids) true < questions_left room (length ids) b) (sym first) (omega arith)
-]
+on_lowers : (room : ℕ) (ids : List ℕ) (ended_once : Bool) (answer : Option ℕ) (more : List ℕ) (ends : Bool) → GoesOn room ids ended_once answer more ends →
+    questions_left room (length more) ends < questions_left room (length ids) ended_once
+on_lowers room ids ended_once answer more ends on = elim on as (λ (answer : Option ℕ) (more : List ℕ) (ends : Bool) on. questions_left room (length more) ends <
+    questions_left room (length ids) ended_once) [
+      | IsNew id more misses fits is ↦ fewer more (ap length is ∙ length_more ids id) fits
+      | EndsOnce first ↦ subst (λ (b : Bool). questions_left room (length ids) true < questions_left room (length ids) b) (sym first) (omega arith)
+    ]
   where
     fewer : (more : List ℕ) → length more ≡ length ids + 1 → length ids < room → questions_left room (length more) ended_once < questions_left room (length ids) ended_once
     fewer more long fits = omega (arith, long, fits)
 
 -- how many questions come behind an answer
-pub heard_lowers : (entries : List Entry) (steps listed : ℕ) (ended_once : Bool) (held : List ℕ) (count : ℕ) (ends : Bool) (answer : Option ℕ) (after : List ℕ) → listed ≤ length held → count ≤ length after →
+pub heard_lowers : (entries : List Entry) (steps listed : ℕ) (ended_once : Bool) (held : List ℕ) (count : ℕ) (ends : Bool) (answer : Option ℕ) (after : List ℕ)
+    → listed ≤ length held → count ≤ length after →
     GoesOn (length held) (take listed held) ended_once answer (take count after) ends → questions_left (length held) count ends < questions_left (length held) listed ended_once
 heard_lowers entries steps listed ended_once held count ends answer after fits counts on =
     let less = on_lowers (length held) (take listed held) ended_once answer (take count after) ends on in
@@ -37,20 +40,23 @@ listing_rank room (Ended listed result) = 0
 
 pub rank_heard : (entries : List Entry) (steps listed : ℕ) (ended_once : Bool) (held : List ℕ) (answer : Result (Option ℕ) ClientError) (at : Listing) (after : List ℕ) → listed ≤ length held →
     IsHeard entries steps listed ended_once held answer at after → listing_rank (length after) at < suc (questions_left (length held) listed ended_once)
-rank_heard entries steps listed ended_once held answer at after fits heard = elim heard as (λ (answer : Result (Option ℕ) ClientError) (at : Listing) (after : List ℕ) heard. listing_rank (length after) at < suc (questions_left (length held) listed ended_once)) [
-  | IsOver answer result ends ↦ omega arith
-  | IsAsked answer count ends after on counts same rest ↦
-      let less = heard_lowers entries steps listed ended_once held count ends answer after fits counts on in
-      subst (λ (n : ℕ). suc (questions_left n count ends) < suc (questions_left (length held) listed ended_once)) (sym same) (omega (arith, less))
-]
+rank_heard entries steps listed ended_once held answer at after fits heard =
+    elim heard as (λ (answer : Result (Option ℕ) ClientError) (at : Listing) (after : List ℕ) heard. listing_rank (length after) at < suc
+    (questions_left (length held) listed ended_once)) [
+      | IsOver answer result ends ↦ omega arith
+      | IsAsked answer count ends after on counts same rest ↦
+          let less = heard_lowers entries steps listed ended_once held count ends answer after fits counts on in
+          subst (λ (n : ℕ). suc (questions_left n count ends) < suc (questions_left (length held) listed ended_once)) (sym same) (omega (arith, less))
+    ]
 
 -- the buffer keeps its length, and holds what is counted
 pub room_heard : (entries : List Entry) (steps listed : ℕ) (ended_once : Bool) (held : List ℕ) (answer : Result (Option ℕ) ClientError) (at : Listing) (after : List ℕ) → listed ≤ length held →
     IsHeard entries steps listed ended_once held answer at after → (listed_by at ≤ length after) × (length after ≡ length held)
-room_heard entries steps listed ended_once held answer at after fits heard = elim heard as (λ (answer : Result (Option ℕ) ClientError) (at : Listing) (after : List ℕ) heard. (listed_by at ≤ length after) × (length after ≡ length held)) [
-  | IsOver answer result ends ↦ (fits, refl)
-  | IsAsked answer count ends after on counts same rest ↦ (counts, same)
-]
+room_heard entries steps listed ended_once held answer at after fits heard =
+    elim heard as (λ (answer : Result (Option ℕ) ClientError) (at : Listing) (after : List ℕ) heard. (listed_by at ≤ length after) × (length after ≡ length held)) [
+      | IsOver answer result ends ↦ (fits, refl)
+      | IsAsked answer count ends after on counts same rest ↦ (counts, same)
+    ]
 
 -- one for which the buffer has no room
 pub told_full : (entries : List Entry) (steps listed : ℕ) (ended_once : Bool) (held : List ℕ) (id : ℕ) → listed ≡ length held → (Contains (take listed held) id → ⊥) →
@@ -64,7 +70,8 @@ pub told_new : (entries : List Entry) (steps listed : ℕ) (ended_once : Bool) (
 told_new entries steps listed ended_once held id fits apart misses =
     let same = length-set held listed id in
     let long = length-take-le listed held fits in
-    IsAsked (Some id) (listed + 1) ended_once (set held listed id) (IsNew id (take (listed + 1) (set held listed id)) misses (omega (arith, long, below)) (take-set_at held listed (listed + 1) id refl below))
+    IsAsked (Some id) (listed + 1) ended_once (set held listed id) (IsNew id (take (listed + 1) (set held listed id)) misses (omega (arith, long, below))
+    (take-set_at held listed (listed + 1) id refl below))
     (omega (arith, same, below)) same (drop-set-lt (listed + 1) held listed id (omega arith))
   where
     below : listed < length held

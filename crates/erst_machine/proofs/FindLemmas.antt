@@ -40,11 +40,16 @@ not_mapped reach at a b c d e (inr (inr (inr (inr (inr (inr none)))))) = none
 
 -- no area begins where another ends
 end_not_mapped : (reach : ℕ) (area : Area) → IsMemory area → reach ≤ 65536 → IsMapped (all_windows reach) (Memory (base_of area + size_of reach area)) → ⊥
-end_not_mapped reach Device memory small = not_mapped reach _ (λ has. absurd (omega arith)) (λ has. absurd (omega arith)) (λ has. absurd (omega arith)) (λ has. absurd (omega arith)) (λ has. absurd (omega arith))
-end_not_mapped reach Scratch memory small = not_mapped reach _ (λ has. absurd (omega arith)) (λ has. absurd (omega arith)) (λ has. absurd (omega arith)) (λ has. absurd (omega arith)) (λ has. absurd (omega arith))
-end_not_mapped reach LogRange memory small = not_mapped reach _ (λ has. absurd (omega arith)) (λ has. absurd (omega arith)) (λ has. absurd (omega arith)) (λ has. absurd (omega arith)) (λ has. absurd (omega arith))
-end_not_mapped reach Handover memory small = not_mapped reach _ (λ has. absurd (omega arith)) (λ has. absurd (omega arith)) (λ has. absurd (omega arith)) (λ has. absurd (omega arith)) (λ has. absurd (omega arith))
-end_not_mapped reach BootErrors memory small = not_mapped reach _ (λ has. absurd (omega arith)) (λ has. absurd (omega arith)) (λ has. absurd (omega arith)) (λ has. absurd (omega arith)) (λ has. absurd (omega arith))
+end_not_mapped reach Device memory small = not_mapped reach _ (λ has. absurd (omega arith)) (λ has. absurd (omega arith)) (λ has. absurd (omega arith))
+    (λ has. absurd (omega arith)) (λ has. absurd (omega arith))
+end_not_mapped reach Scratch memory small = not_mapped reach _ (λ has. absurd (omega arith)) (λ has. absurd (omega arith)) (λ has. absurd (omega arith))
+    (λ has. absurd (omega arith)) (λ has. absurd (omega arith))
+end_not_mapped reach LogRange memory small = not_mapped reach _ (λ has. absurd (omega arith)) (λ has. absurd (omega arith)) (λ has. absurd (omega arith))
+    (λ has. absurd (omega arith)) (λ has. absurd (omega arith))
+end_not_mapped reach Handover memory small = not_mapped reach _ (λ has. absurd (omega arith)) (λ has. absurd (omega arith)) (λ has. absurd (omega arith))
+    (λ has. absurd (omega arith)) (λ has. absurd (omega arith))
+end_not_mapped reach BootErrors memory small = not_mapped reach _ (λ has. absurd (omega arith)) (λ has. absurd (omega arith)) (λ has. absurd (omega arith))
+    (λ has. absurd (omega arith)) (λ has. absurd (omega arith))
 end_not_mapped reach Ports memory small = absurd memory
 
 abbrev Found : ℕ → ℕ → ℕ → Location → Type 0
@@ -74,7 +79,8 @@ area_finds reach area at n rest true is memory small other =
     let from : base_of area ≤ at = grind (arith, nat_tests) in
     let below : at < base_of area + size_of reach area = grind (arith, nat_tests) in
     within_finds reach area at n _ refl memory small (from, below)
-area_finds reach area at n rest false is memory small other = other (λ has. let from : base_of area ≤ at = has.0 in let below : at < base_of area + size_of reach area = has.1 in grind (arith, nat_tests))
+area_finds reach area at n rest false is memory small other = other (λ has. let from : base_of area ≤ at = has.0 in let below : at < base_of area + size_of
+    reach area = has.1 in grind (arith, nat_tests))
 
 nowhere_finds : (reach at n : ℕ) → 0 < n → (IsMapped (all_windows reach) (Memory at) → ⊥) → Found reach at n (Nowhere at)
 nowhere_finds reach at n some none = (

@@ -97,7 +97,15 @@ kept_put Scratch start old bytes fits machine =
 kept_put LogRange start old bytes fits machine =
     let same : length (put_at old.memory.range start bytes) ≡ length old.memory.range = length-put_at old.memory.range start bytes fits in
     record {
-      sizes = record { small = machine.sizes.small; range = same ∙ machine.sizes.range; scratch = machine.sizes.scratch; ports = machine.sizes.ports; region = machine.sizes.region; shared = machine.sizes.shared };
+      sizes = record {
+        small = machine.sizes.small;
+        range = same ∙ machine.sizes.range;
+        scratch = machine.sizes.scratch;
+        ports = machine.sizes.ports;
+        region =
+            machine.sizes.region;
+        shared = machine.sizes.shared;
+      };
       laid = machine.laid;
       map = machine.map;
       stands = machine.stands;
@@ -155,7 +163,8 @@ kept_stored (Inside area start) old at bytes fits machine = kept_area_stored are
 kept_stored (Beyond area address) old at bytes fits machine = machine
 kept_stored (Nowhere address) old at bytes fits machine = machine
 
-kept_copied_to : (target : Location) (old : MachineState) (bytes : List ℕ) (n : ℕ) → length bytes ≤ n → IsPlaced (length old.memory.range) n target → IsMachine old → IsMachine (copied_to target old bytes)
+kept_copied_to : (target : Location) (old : MachineState) (bytes : List ℕ) (n : ℕ) → length bytes ≤ n → IsPlaced (length old.memory.range) n target →
+    IsMachine old → IsMachine (copied_to target old bytes)
 kept_copied_to (Inside area start) old bytes n short fits machine = kept_put area start old bytes (omega arith) machine
 kept_copied_to (Beyond area address) old bytes n short fits machine = machine
 kept_copied_to (Nowhere address) old bytes n short fits machine = machine

@@ -135,7 +135,8 @@ finished_is new finished =
     finished.others ∙ ap (λ (h : Header). made h new.count) finished.header
     ∙ ap (λ (n : ℕ). made (own_header (codes "ERST") n sum) new.count) size ∙ ap (λ (n : ℕ). made (own_header (codes "ERST") own_size sum) n) (finished.counted ∙ count_is)
 
-pub sealed_erst : (entries : List Entry) (new : Erst) (bytes : List ℕ) → entries ≡ own_entries → IsSealed (spelling new) → Finished (blank_erst entries) new → bytes ≡ spelling new → new.header.checksum < 256 →
+pub sealed_erst : (entries : List Entry) (new : Erst) (bytes : List ℕ) → entries ≡ own_entries → IsSealed (spelling new) → Finished (blank_erst entries) new →
+    bytes ≡ spelling new → new.header.checksum < 256 →
     bytes ≡ spelling own_erst
 unfolding erst_with
 sealed_erst entries new bytes all sealed finished spelled_is fits =

@@ -7,7 +7,10 @@ use Rattle.apei_tables.specs.GasLayout.{IsGas}
 use Rattle.apei_tables.specs.Layout.{spelling as header_spelling, IsHeader}
 use Rattle.apei_tables.specs.Tables.{IsSealed, IsTable}
 use Rattle.erst_entries.specs.declared.actions.Action.{Action}
-use Rattle.erst_entries.specs.declared.actions.Action.TheVariants.{BeginWriteOperation, BeginReadOperation, BeginClearOperation, EndOperation, SetRecordOffset, ExecuteOperation, CheckBusyStatus, GetCommandStatus, GetRecordIdentifier, SetRecordIdentifier, GetRecordCount, BeginDummyWriteOperation, GetErrorLogAddressRange, GetErrorLogAddressRangeLength, GetErrorLogAddressRangeAttributes}
+use Rattle.erst_entries.specs.declared.actions.Action.TheVariants.{BeginWriteOperation, BeginReadOperation, BeginClearOperation, EndOperation, SetRecordOffset}
+use Rattle.erst_entries.specs.declared.actions.Action.TheVariants.{ExecuteOperation, CheckBusyStatus, GetCommandStatus, GetRecordIdentifier}
+use Rattle.erst_entries.specs.declared.actions.Action.TheVariants.{SetRecordIdentifier, GetRecordCount, BeginDummyWriteOperation, GetErrorLogAddressRange}
+use Rattle.erst_entries.specs.declared.actions.Action.TheVariants.{GetErrorLogAddressRangeLength, GetErrorLogAddressRangeAttributes}
 use Rattle.erst_entries.specs.Actions.{code_of, plain_entry}
 use Rattle.erst_entries.specs.Layout.{IsEntry, AreEntries, entry_spelling, front_spelling, spelling, FitsErst}
 use Rattle.erst_entries.specs.Tables.{IsErst}
@@ -60,8 +63,62 @@ tell_fits (action ∷ rest) = (act_fits action, (answer_fits action _ (lit< tt),
 
 entries_fit : AreEntries own_entries
 unfolding own_entries
-entries_fit =
-    (act_fits BeginWriteOperation, (act_fits BeginReadOperation, (act_fits BeginClearOperation, (act_fits EndOperation, (give_fits SetRecordOffset, (act_fits SetRecordOffset, (act_fits ExecuteOperation, (act_fits CheckBusyStatus, (is_one_fits CheckBusyStatus, (act_fits GetCommandStatus, (answer_fits GetCommandStatus _ (lit< tt), (act_fits GetRecordIdentifier, (answer_fits GetRecordIdentifier _ (lit< tt), (give_fits SetRecordIdentifier, (act_fits SetRecordIdentifier, (act_fits GetRecordCount, (answer_fits GetRecordCount _ (lit< tt), (act_fits BeginDummyWriteOperation, tell_fits (GetErrorLogAddressRange ∷ GetErrorLogAddressRangeLength ∷ GetErrorLogAddressRangeAttributes ∷ told_actions)))))))))))))))))))
+entries_fit = (
+  act_fits BeginWriteOperation,
+  (
+    act_fits BeginReadOperation,
+    (
+      act_fits BeginClearOperation,
+      (
+        act_fits EndOperation,
+        (
+          give_fits SetRecordOffset,
+          (
+            act_fits SetRecordOffset,
+            (
+              act_fits ExecuteOperation,
+              (
+                act_fits CheckBusyStatus,
+                (
+                  is_one_fits CheckBusyStatus,
+                  (
+                    act_fits GetCommandStatus,
+                    (
+                      answer_fits GetCommandStatus _ (lit< tt),
+                      (
+                        act_fits GetRecordIdentifier,
+                        (
+                          answer_fits GetRecordIdentifier _ (lit< tt),
+                          (
+                            give_fits SetRecordIdentifier,
+                            (
+                              act_fits SetRecordIdentifier,
+                              (
+                                act_fits GetRecordCount,
+                                (
+                                  answer_fits GetRecordCount _ (lit< tt),
+                                  (
+                                    act_fits BeginDummyWriteOperation,
+                                    tell_fits (GetErrorLogAddressRange ∷ GetErrorLogAddressRangeLength ∷ GetErrorLogAddressRangeAttributes ∷
+                                        told_actions),
+                                  ),
+                                ),
+                              ),
+                            ),
+                          ),
+                        ),
+                      ),
+                    ),
+                  ),
+                ),
+              ),
+            ),
+          ),
+        ),
+      ),
+    ),
+  ),
+)
 
 header_fits : (signature : List ℕ) (size checksum : ℕ) → length signature ≡ 4 → size < 2 ^ 32 → checksum < 256 → IsHeader (own_header signature size checksum)
 header_fits signature size checksum four small byte = record {
@@ -151,7 +208,12 @@ bert_size bytes is = subst (λ (xs : List ℕ). length xs ≡ 48) (sym is) own_b
 own_bert_is : IsBert own_bert own_bert_bytes
 unfolding own_bert_bytes header_spelling spelled number_at part
 own_bert_is = record {
-  is_table = (own_header (codes "BERT") 48 0x18, header_fits (codes "BERT") 48 0x18 refl (lit< tt) (lit< tt), record { sealed = record { size = lit≤ tt; length_field = refl; sum = refl }; begins = refl }, refl);
+  is_table = (
+    own_header (codes "BERT") 48 0x18,
+    header_fits (codes "BERT") 48 0x18 refl (lit< tt) (lit< tt),
+    record { sealed = record { size = lit≤ tt; length_field = refl; sum = refl }; begins = refl },
+    refl,
+  );
   fixed = lit≤ tt;
   len = refl;
   region = refl;

@@ -56,7 +56,8 @@ module _ (old : DeviceState) (range : List ℕ) (address code : ℕ) (left : Dev
         round = λ same quiet. round_first old range (action_of code) left after action looks effect other quiet;
       }
 
-  pub acted_round : (new : DeviceState) (last : List ℕ) → code ≡ code_of GetRecordIdentifier → left.value ≡ 2 ^ 64 - 1 → Acts (Unit {0}) left after (action_of code) new last → Acted old range address code new last
+  pub acted_round : (new : DeviceState) (last : List ℕ) → code ≡ code_of GetRecordIdentifier → left.value ≡ 2 ^ 64 - 1 →
+      Acts (Unit {0}) left after (action_of code) new last → Acted old range address code new last
   acted_round new last is all again =
       let action : action_of code ≡ Some GetRecordIdentifier = ap action_of is in
       let looks : Looked old range left after = looked old range (action_of code) left after action acts in

@@ -27,7 +27,8 @@ pub change_of_due : (sector : ℕ) (told : Told) (s : ℕ) (kind : Kind) (at : �
 change_of_due sector told s kind at bytes due = is_range (slice_get told.past s) at (length bytes) due.range
 
 -- what is due stays so, whatever the flash does later
-pub due_later : (sector : ℕ) (old new : Told) (s : ℕ) (kind : Kind) (at : ℕ) (bytes : List ℕ) → IsLater old new → length new.image ≡ length old.image → IsDue sector old s kind at bytes → IsDue sector new s kind at bytes
+pub due_later : (sector : ℕ) (old new : Told) (s : ℕ) (kind : Kind) (at : ℕ) (bytes : List ℕ) → IsLater old new → length new.image ≡ length old.image →
+    IsDue sector old s kind at bytes → IsDue sector new s kind at bytes
 due_later sector old new s kind at bytes later size due =
     let is = change_of_due sector old s kind at bytes due in
     let before : s < length old.past = slice_get_within old.past s is.0 is.1 in
@@ -88,7 +89,8 @@ last_now sector past image range at bytes new within put may place size s last =
     )
 
 -- the law of a medium
-pub follows : (sector : ℕ) (told : Told) (s : ℕ) (kind : Kind) (at : ℕ) (bytes medium : List ℕ) → IsDue sector told s kind at bytes → medium ≡ image_at told s → put_at medium at bytes ≡ image_at told (s + 1)
+pub follows : (sector : ℕ) (told : Told) (s : ℕ) (kind : Kind) (at : ℕ) (bytes medium : List ℕ) → IsDue sector told s kind at bytes → medium ≡ image_at told s →
+    put_at medium at bytes ≡ image_at told (s + 1)
 follows sector told s kind at bytes medium due is = ap (λ (image : List ℕ). put_at image at bytes) is ∙ sym due.image
 
 -- the image before a change

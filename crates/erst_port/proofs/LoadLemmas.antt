@@ -164,7 +164,8 @@ refuses_by Opens Refuses saved opened (errors.Medium error) is refused = absurd 
 refuses_by Opens Refuses saved opened errors.Geometry is refused = (opened, is, refused)
 refuses_by Opens Refuses saved opened (errors.Size found wanted) is refused = (opened, is, refused)
 
-pub refuses_load : (Opens : Addresses → PortState → Type 0) (Refuses : Addresses → OpenError → Type 0) (saved : List ℕ) (opened : PortState) (result : Result PortState LoadError) → Opens (addresses_in saved) opened
+pub refuses_load : (Opens : Addresses → PortState → Type 0) (Refuses : Addresses → OpenError → Type 0) (saved : List ℕ) (opened : PortState)
+    (result : Result PortState LoadError) → Opens (addresses_in saved) opened
     → IfErr result (RefusesResume saved opened) → IfErr result (RefusesLoad Opens Refuses saved)
 refuses_load Opens Refuses saved opened (Ok port) is refused = tt
 refuses_load Opens Refuses saved opened (Err error) is refused = refuses_by Opens Refuses saved opened error is refused

@@ -33,7 +33,8 @@ IfLooks (Some GetRecordIdentifier) old range new after = Looked old range new af
 IfLooks action old range new after = Unit {0}
 
 -- an action that begins, waits or tells is another one
-by_begin : {O : Type 0} (action : Action) (operation : O) (begun : Option O) (old : DeviceState) (range : List ℕ) (new : DeviceState) (after : List ℕ) → (action ≡ GetRecordIdentifier → begun ≡ None) → begun ≡ Some operation
+by_begin : {O : Type 0} (action : Action) (operation : O) (begun : Option O) (old : DeviceState) (range : List ℕ) (new : DeviceState) (after : List ℕ) →
+    (action ≡ GetRecordIdentifier → begun ≡ None) → begun ≡ Some operation
     → IfLooks (Some action) old range new after
 by_begin GetRecordIdentifier operation begun old range new after none is = absurd (none-some operation (sym (none refl) ∙ is))
 by_begin action operation begun old range new after none is = tt
@@ -59,7 +60,8 @@ looks_by old range action new after acts = elim acts as (λ action new after act
   | Ignores ↦ tt
 ]
 
-pub looked : (old : DeviceState) (range : List ℕ) (action : Option Action) (new : DeviceState) (after : List ℕ) → action ≡ Some GetRecordIdentifier → Acts (Unit {0}) old range action new after → Looked old range new after
+pub looked : (old : DeviceState) (range : List ℕ) (action : Option Action) (new : DeviceState) (after : List ℕ) → action ≡ Some GetRecordIdentifier →
+    Acts (Unit {0}) old range action new after → Looked old range new after
 looked old range action new after is acts =
     looks_by old range (Some GetRecordIdentifier) new after (subst (λ (a : Option Action). Acts (Unit {0}) old range a new after) is acts)
 
@@ -101,7 +103,8 @@ behind old range left after looks all =
     let none : looks.result ≡ Ok None = is_last looks.result looks.allowed (sym (value_is old looks.store looks.result) ∙ sym (ap (λ (d : DeviceState). d.value) looks.new_is) ∙ all) in
     by_result looks.result none looks.look looks.new_is
   where
-    by_result : (result : Result (Option ℕ) StoreError) → result ≡ Ok None → FoundNext (Unit {0}) (given_up old).store looks.store old.cursor result → left ≡ found result looks.store (given_up old) → IsBehind old left
+    by_result : (result : Result (Option ℕ) StoreError) → result ≡ Ok None → FoundNext (Unit {0}) (given_up old).store looks.store old.cursor result →
+        left ≡ found result looks.store (given_up old) → IsBehind old left
     by_result (Ok (Some id)) is look new_is = absurd (let e : Some id ≡ None = cc in none-some id (sym e))
     by_result (Ok None) is look new_is = record {
       none = look.answer tt;
@@ -152,7 +155,8 @@ second_by left new store (Ok None) ready first look allowed new_is =
     }
 second_by left new store (Err error) ready first look allowed new_is =
     let same : abandoned left.store ≡ left.store = given_up_ready left.store ready in
-    absurd (subst (λ (e : StoreError). AnswersByItself {T = Option ℕ} (store ≡ (given_up left).store) (given_up left).store store (Err e)) look.error (look.still (ap (λ (s : StoreView). s.in_doubt) same ∙ ready.certain)))
+    absurd (subst (λ (e : StoreError). AnswersByItself {T = Option ℕ} (store ≡ (given_up left).store) (given_up left).store store (Err e)) look.error
+    (look.still (ap (λ (s : StoreView). s.in_doubt) same ∙ ready.certain)))
 
 pub second : (left : DeviceState) (range : List ℕ) (new : DeviceState) (after : List ℕ) → Looked left range new after → IsReady left.store → left.cursor ≡ 0 → IsSecond left new
 second left range new after looks ready first = second_by left new looks.store looks.result ready first looks.look looks.allowed looks.new_is
@@ -198,7 +202,8 @@ with_causes old range action new on status next count = record {
   count = count;
 }
 
-pub effect_round : (old : DeviceState) (range : List ℕ) (action : Option Action) (left new : DeviceState) → action ≡ Some GetRecordIdentifier → Effect (Unit {0}) old range action left → IsSecond left new
+pub effect_round : (old : DeviceState) (range : List ℕ) (action : Option Action) (left new : DeviceState) → action ≡ Some GetRecordIdentifier →
+    Effect (Unit {0}) old range action left → IsSecond left new
     → Effect (Unit {0}) old range action new
 effect_round old range action left new is effect again =
     with_causes old range action new (subst (OnStore old range action) (sym again.store) (on_store old range action left effect))
@@ -221,7 +226,8 @@ effect_told old range action left number is effect =
 
 -- The identifier that is told
 
-round_by : (old left : DeviceState) (store : StoreView) (result : Result (Option ℕ) StoreError) → FoundNext (Unit {0}) (given_up old).store store old.cursor result → left ≡ found result store (given_up old)
+round_by : (old left : DeviceState) (store : StoreView) (result : Result (Option ℕ) StoreError) → FoundNext (Unit {0}) (given_up old).store store old.cursor
+    result → left ≡ found result store (given_up old)
     → left.value ≢ 2 ^ 64 - 1 → (left.value ≡ 0 → ⊥) → GoesRound old.cursor (records old) left.value
 round_by old left store (Ok (Some id)) look new_is other some = subst (GoesRound old.cursor (records old)) (sym (ap (λ (d : DeviceState). d.value) new_is)) (Above id (look.answer tt))
 round_by old left store (Ok None) look new_is other some = absurd (other (ap (λ (d : DeviceState). d.value) new_is))
@@ -232,7 +238,8 @@ pub round_first : (old : DeviceState) (range : List ℕ) (action : Option Action
 round_first old range action left after is looks effect other quiet =
     round_by old left looks.store looks.result looks.look looks.new_is other (λ none. quiet (effect.next is none))
 
-pub round_second : (old : DeviceState) (range : List ℕ) (action : Option Action) (left new : DeviceState) → action ≡ Some GetRecordIdentifier → Effect (Unit {0}) old range action left → IsBehind old left → IsSecond left new
+pub round_second : (old : DeviceState) (range : List ℕ) (action : Option Action) (left new : DeviceState) → action ≡ Some GetRecordIdentifier →
+    Effect (Unit {0}) old range action left → IsBehind old left → IsSecond left new
     → (Rose old.store.flash.faults new.store.flash.faults → ⊥) → GoesRound old.cursor (records old) new.value
 round_second old range action left new is effect ends again quiet =
     let before : Rose old.store.flash.faults left.store.flash.faults → ⊥ = subst (λ (s : StoreView). Rose old.store.flash.faults s.flash.faults → ⊥) again.store quiet in

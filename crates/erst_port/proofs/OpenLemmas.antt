@@ -36,7 +36,8 @@ module _ (medium : List ℕ) (addresses : Addresses) (geometry : Geometry) (is :
 
 -- what was opened is a port
 pub is_port : (geometry : Geometry) (device : DeviceState) (range table : List ℕ) (addresses : Addresses) (origin size reach : ℕ) → IsOpened geometry device.store
-    → size ≡ reach_of (geometry.slot_size - 64) → reach ≡ reach_of (geometry.slot_size - 64) → range ≡ zeros reach → length table ≡ table_size → table ≡ spelling (port_erst addresses.registers) → are_apart size addresses ≡ true → origin ≤ 32768
+    → size ≡ reach_of (geometry.slot_size - 64) → reach ≡ reach_of (geometry.slot_size - 64) → range ≡ zeros reach → length table ≡ table_size →
+    table ≡ spelling (port_erst addresses.registers) → are_apart size addresses ≡ true → origin ≤ 32768
     → IsLogged device.store.flash → IsPort (state_of device range table addresses origin nothing_made)
 is_port geometry device range table addresses origin size reach opened size_is reach_is range_is long tells apart near known =
     let range_size : length range ≡ reach_of (geometry.slot_size - 64) = ap (λ (xs : List ℕ). length xs) range_is ∙ length-replicate reach 0 ∙ reach_is in

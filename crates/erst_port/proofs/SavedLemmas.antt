@@ -171,7 +171,8 @@ same_layout one other sector per_slot slots =
 
 -- What runs
 
-by_running : (tells : Type 0) (device : DeviceState) (running : Running) (offset : ℕ) → device.reading ≡ reading_of running → Runs tells running offset device.store → (running ≡ Nothing → ⊥) → IsRunning device
+by_running : (tells : Type 0) (device : DeviceState) (running : Running) (offset : ℕ) → device.reading ≡ reading_of running →
+    Runs tells running offset device.store → (running ≡ Nothing → ⊥) → IsRunning device
 by_running tells device Nothing offset reading runs some = absurd (some refl)
 by_running tells device (Reading id) offset reading runs some = Reads id reading
 by_running tells device Changing offset reading runs some = Changes runs

@@ -12,7 +12,10 @@ use Rattle.apei_tables.specs.declared.headers.Header.{Header}
 use Rattle.apei_tables.specs.Layout.{spelling as header_spelling}
 use Rattle.apei_tables.specs.Tables.{IsSealed}
 use Rattle.erst_entries.specs.declared.actions.Action.{Action}
-use Rattle.erst_entries.specs.declared.actions.Action.TheVariants.{BeginWriteOperation, BeginReadOperation, BeginClearOperation, EndOperation, SetRecordOffset, ExecuteOperation, CheckBusyStatus, GetCommandStatus, GetRecordIdentifier, SetRecordIdentifier, GetRecordCount, BeginDummyWriteOperation, GetErrorLogAddressRange, GetErrorLogAddressRangeLength, GetErrorLogAddressRangeAttributes, GetExecuteOperationTimings}
+use Rattle.erst_entries.specs.declared.actions.Action.TheVariants.{BeginWriteOperation, BeginReadOperation, BeginClearOperation, EndOperation, SetRecordOffset}
+use Rattle.erst_entries.specs.declared.actions.Action.TheVariants.{ExecuteOperation, CheckBusyStatus, GetCommandStatus, GetRecordIdentifier}
+use Rattle.erst_entries.specs.declared.actions.Action.TheVariants.{SetRecordIdentifier, GetRecordCount, BeginDummyWriteOperation, GetErrorLogAddressRange}
+use Rattle.erst_entries.specs.declared.actions.Action.TheVariants.{GetErrorLogAddressRangeLength, GetErrorLogAddressRangeAttributes, GetExecuteOperationTimings}
 use Rattle.erst_entries.specs.declared.entries.Entry.{Entry}
 use Rattle.erst_entries.specs.Actions.{code_of}
 use Rattle.erst_entries.specs.Layout.{IsEntry, AreEntries, entry_spelling, front_spelling, spelling}
@@ -48,8 +51,79 @@ module _ (registers : ℕ) (below : registers + 8 < 2 ^ 64) where
 
   all_fit : AreEntries (port_entries registers)
   unfolding port_entries
-  all_fit =
-      (carried BeginWriteOperation, (carried BeginReadOperation, (carried BeginClearOperation, (carried EndOperation, (given SetRecordOffset, (carried SetRecordOffset, (carried ExecuteOperation, (carried CheckBusyStatus, (asked CheckBusyStatus, (carried GetCommandStatus, (taken GetCommandStatus _ (lit< tt), (carried GetRecordIdentifier, (taken GetRecordIdentifier _ (lit< tt), (given SetRecordIdentifier, (carried SetRecordIdentifier, (carried GetRecordCount, (taken GetRecordCount _ (lit< tt), (carried BeginDummyWriteOperation, (carried GetErrorLogAddressRange, (taken GetErrorLogAddressRange _ (lit< tt), (carried GetErrorLogAddressRangeLength, (taken GetErrorLogAddressRangeLength _ (lit< tt), (carried GetErrorLogAddressRangeAttributes, (taken GetErrorLogAddressRangeAttributes _ (lit< tt), (carried GetExecuteOperationTimings, (taken GetExecuteOperationTimings _ (lit< tt), tt))))))))))))))))))))))))))
+  all_fit = (
+    carried BeginWriteOperation,
+    (
+      carried BeginReadOperation,
+      (
+        carried BeginClearOperation,
+        (
+          carried EndOperation,
+          (
+            given SetRecordOffset,
+            (
+              carried SetRecordOffset,
+              (
+                carried ExecuteOperation,
+                (
+                  carried CheckBusyStatus,
+                  (
+                    asked CheckBusyStatus,
+                    (
+                      carried GetCommandStatus,
+                      (
+                        taken GetCommandStatus _ (lit< tt),
+                        (
+                          carried GetRecordIdentifier,
+                          (
+                            taken GetRecordIdentifier _ (lit< tt),
+                            (
+                              given SetRecordIdentifier,
+                              (
+                                carried SetRecordIdentifier,
+                                (
+                                  carried GetRecordCount,
+                                  (
+                                    taken GetRecordCount _ (lit< tt),
+                                    (
+                                      carried BeginDummyWriteOperation,
+                                      (
+                                        carried GetErrorLogAddressRange,
+                                        (
+                                          taken GetErrorLogAddressRange _ (lit< tt),
+                                          (
+                                            carried GetErrorLogAddressRangeLength,
+                                            (
+                                              taken GetErrorLogAddressRangeLength _ (lit< tt),
+                                              (
+                                                carried GetErrorLogAddressRangeAttributes,
+                                                (
+                                                  taken GetErrorLogAddressRangeAttributes _ (lit< tt),
+                                                  (carried GetExecuteOperationTimings, (taken GetExecuteOperationTimings _ (lit< tt), tt)),
+                                                ),
+                                              ),
+                                            ),
+                                          ),
+                                        ),
+                                      ),
+                                    ),
+                                  ),
+                                ),
+                              ),
+                            ),
+                          ),
+                        ),
+                      ),
+                    ),
+                  ),
+                ),
+              ),
+            ),
+          ),
+        ),
+      ),
+    ),
+  )
 
 pub entry_count : (registers : ℕ) → length (port_entries registers) ≡ port_count
 unfolding port_entries
@@ -127,7 +201,8 @@ pub no_entry : (registers : ℕ) (old new : List ℕ) (end : ℕ) → Wrote old 
 no_entry registers old new end wrote = subst (Wrote old new 0 end) (sym (append-nil (front_spelling (table_with registers 0)))) wrote
 
 -- one entry more
-pub next_entry : (registers : ℕ) (old mid new : List ℕ) (at end n : ℕ) (items : List Entry) (d : Entry) (bytes : List ℕ) → items ≡ port_entries registers → n < port_count → bytes ≡ entry_spelling (get_or items n d)
+pub next_entry : (registers : ℕ) (old mid new : List ℕ) (at end n : ℕ) (items : List Entry) (d : Entry) (bytes : List ℕ) → items ≡ port_entries registers →
+    n < port_count → bytes ≡ entry_spelling (get_or items n d)
     → Wrote old mid 0 at (front_spelling (table_with registers 0) ++ entries_spelling (take n (port_entries registers))) → Wrote mid new at end bytes
     → Wrote old new 0 end (front_spelling (table_with registers 0) ++ entries_spelling (take (n + 1) (port_entries registers)))
 next_entry registers old mid new at end n items d bytes all within here wrote next =

@@ -81,11 +81,13 @@ pub record TellsNumber (number budget : ℕ) (old : MachineState) (result : Resu
   pub long : length last.memory.scratch ≡ 4096
   pub beside : last ≡ holding old.memory.range last.memory.scratch old
 
-tells_number_in : (tells : Type 0) → StraightRuns tells → (action : Action) (r : MoveRegister) (number budget : ℕ) (old : MachineState) (result : Result ℕ RunStop) (left : ℕ) (last : MachineState) → number < 2 ^ 64 → length old.memory.scratch ≡ 4096 → 2 ≤ budget
+tells_number_in : (tells : Type 0) → StraightRuns tells → (action : Action) (r : MoveRegister) (number budget : ℕ) (old : MachineState)
+    (result : Result ℕ RunStop) (left : ℕ) (last : MachineState) → number < 2 ^ 64 → length old.memory.scratch ≡ 4096 → 2 ≤ budget
     → Run (Allows tells) (tell_entries action r number) 0 budget old result left last → TellsNumber number budget old result left last
 unfolding tell_straight sets reads
 tells_number_in tells law action r number budget old result left last small long enough run =
-    elim (law (tell_entries action r number) (tell_straight tells action r number) 0 budget old result left last (omega arith) run) as (λ result left last ran. TellsNumber number budget old result left last) [
+    elim (law (tell_entries action r number) (tell_straight tells action r number) 0 budget old result left last (omega arith) run) as
+    (λ result left last ran. TellsNumber number budget old result left last) [
       | Through c left last does spent ↦
           let between = does.1.0 in
           let wrote = register_written tells old between r (stored number 0 (2 ^ 64 - 1)) (Ok tt) does.1.1.0.1 in
@@ -162,19 +164,24 @@ scratch_then : (first w v : MachineState) → OnlyScratch first w → OnlyScratc
 scratch_then first w v is next =
     next ∙ ap (λ (m : MachineState). holding w.memory.range v.memory.scratch m) is ∙ ap (λ (r : List ℕ). holding r v.memory.scratch first) (ap (λ (m : MachineState). m.memory.range) is)
 
-pub attaches_shadow : (tells : Type 0) → StraightRuns tells → OwnProgramsRun tells → (budget : ℕ) (first : MachineState) (result : Result ClientState AttachError) (left : ℕ) (last : MachineState) → IsMachine first → 8 ≤ budget
+pub attaches_shadow : (tells : Type 0) → StraightRuns tells → OwnProgramsRun tells → (budget : ℕ) (first : MachineState)
+    (result : Result ClientState AttachError) (left : ℕ) (last : MachineState) → IsMachine first → 8 ≤ budget
     → Attaches (Allows tells) (shadow_erst (pieces_in first)) budget first result left last → AttachesShadow budget first result left last
 attaches_shadow tells law own budget first result left last machine enough attaches =
-    by_first (first_asked (Allows tells) (shadow_entries (pieces_in first)) _ _ budget first attaches.answers left last (subst (λ (rs : List Request). Asks (Allows tells) (shadow_entries (pieces_in first)) rs budget first attaches.answers left last) (requests-shadow (pieces_in first)) attaches.asks))
+    by_first (first_asked (Allows tells) (shadow_entries (pieces_in first)) _ _ budget first attaches.answers left last
+    (subst (λ (rs : List Request). Asks (Allows tells) (shadow_entries (pieces_in first)) rs budget first attaches.answers left last)
+    (requests-shadow (pieces_in first)) attaches.asks))
   where
     rooms : HoldsPieces first (pieces_in first)
     rooms = holds_pieces first machine
 
-    told_range : (result : Result ℕ RunStop) (left : ℕ) (last : MachineState) → Performs (Allows tells) (shadow_entries (pieces_in first)) GetErrorLogAddressRange 0 budget first result left last → TellsNumber scratch_at budget first result left last
+    told_range : (result : Result ℕ RunStop) (left : ℕ) (last : MachineState) → Performs (Allows tells) (shadow_entries (pieces_in first))
+        GetErrorLogAddressRange 0 budget first result left last → TellsNumber scratch_at budget first result left last
     told_range result left last run = tells_number_in tells law GetErrorLogAddressRange Source scratch_at budget first result left last (omega arith) rooms.scratch (omega arith)
         (subst (λ (p : Listed). Run (Allows tells) p 0 budget first result left last) (program-range (pieces_in first)) run)
 
-    by_fourth : (left3 : ℕ) (w3 : MachineState) (others : Result (List ℕ) RunStop) → OnlyScratch first w3 → length w3.memory.scratch ≡ 4096 → left3 + 6 ≡ budget → attaches.answers ≡ with_answer scratch_at (with_answer (128 * (pieces_in first)) (with_answer 0 others))
+    by_fourth : (left3 : ℕ) (w3 : MachineState) (others : Result (List ℕ) RunStop) → OnlyScratch first w3 → length w3.memory.scratch ≡ 4096 →
+        left3 + 6 ≡ budget → attaches.answers ≡ with_answer scratch_at (with_answer (128 * (pieces_in first)) (with_answer 0 others))
         → FirstAsked (Allows tells) (shadow_entries (pieces_in first)) (request_of GetExecuteOperationTimings) [] left3 w3 others left last → AttachesShadow budget first result left last
     by_fourth left3 w3 others is long spent answers_are asked = elim asked [
       | Went d left4 w4 none run more joined ↦
@@ -183,7 +190,8 @@ attaches_shadow tells law own budget first result left last machine enough attac
           let told = tells_number tells GetExecuteOperationTimings (timings_of w3.device.store.layout) w3.device w3.memory.range w4.device w4.memory.range refl made.acted.acts in
           let same : w3.device ≡ first.device = ap (λ (m : MachineState). m.device) is in
           let times : timings_of w3.device.store.layout ≡ timings_of first.device.store.layout = ap (λ (d : DeviceState). timings_of d.store.layout) same in
-          let there : w4 ≡ with_value (timings_of w3.device.store.layout) w3 = acted_is tells w3 0x10 w4 (record w3.device { value = timings_of w3.device.store.layout }) made.acted told.new_is told.range_is in
+          let there : w4 ≡ with_value (timings_of w3.device.store.layout) w3 =
+          acted_is tells w3 0x10 w4 (record w3.device { value = timings_of w3.device.store.layout }) made.acted told.new_is told.range_is in
           let d_is : d ≡ timings_of first.device.store.layout % 2 ^ 64 = same_answer d _ made.answer ∙ ap (λ (m : MachineState). m.device.value % 2 ^ 64) there ∙ ap (λ (n : ℕ). n % 2 ^ 64) times in
           let end = none_asked (Allows tells) (shadow_entries (pieces_in first)) left4 w4 none left last more in
           let answers : attaches.answers ≡ Ok (scratch_at ∷ 128 * (pieces_in first) ∷ 0 ∷ d ∷ []) =
@@ -204,35 +212,49 @@ attaches_shadow tells law own budget first result left last machine enough attac
           absurd (stop_no _ stop made.answer)
     ]
 
-    by_third : (left2 : ℕ) (w2 : MachineState) (others : Result (List ℕ) RunStop) → OnlyScratch first w2 → length w2.memory.scratch ≡ 4096 → left2 + 4 ≡ budget → attaches.answers ≡ with_answer scratch_at (with_answer (128 * (pieces_in first)) others)
-        → FirstAsked (Allows tells) (shadow_entries (pieces_in first)) (request_of GetErrorLogAddressRangeAttributes) (request_of GetExecuteOperationTimings ∷ []) left2 w2 others left last → AttachesShadow budget first result left last
+    by_third : (left2 : ℕ) (w2 : MachineState) (others : Result (List ℕ) RunStop) → OnlyScratch first w2 → length w2.memory.scratch ≡ 4096 →
+        left2 + 4 ≡ budget → attaches.answers ≡ with_answer scratch_at (with_answer (128 * (pieces_in first)) others)
+        → FirstAsked (Allows tells) (shadow_entries (pieces_in first)) (request_of GetErrorLogAddressRangeAttributes)
+        (request_of GetExecuteOperationTimings ∷ []) left2 w2 others left last → AttachesShadow budget first result left last
     by_third left2 w2 others is long spent answers_are asked = elim asked [
       | Went c left3 w3 more_others run more joined ↦
-          let told = tells_number_in tells law GetErrorLogAddressRangeAttributes Offset 0 left2 w2 (Ok c) left3 w3 (omega arith) long (omega (arith, spent, enough)) (subst (λ (p : Listed). Run (Allows tells) p 0 left2 w2 (Ok c) left3 w3) (program-attributes (pieces_in first)) run) in
+          let told = tells_number_in tells law GetErrorLogAddressRangeAttributes Offset 0 left2 w2 (Ok c) left3 w3 (omega arith) long
+          (omega (arith, spent, enough)) (subst (λ (p : Listed). Run (Allows tells) p 0 left2 w2 (Ok c) left3 w3) (program-attributes (pieces_in first)) run)
+          in
           by_fourth left3 w3 more_others (scratch_then first w2 w3 is told.beside) told.long (omega (arith, told.left_is, spent))
-          (answers_are ∙ ap (λ (r : Result (List ℕ) RunStop). with_answer scratch_at (with_answer (128 * (pieces_in first)) r)) (joined ∙ ap (λ (n : ℕ). with_answer n more_others) (same_answer c 0 told.answer)))
+          (answers_are ∙ ap (λ (r : Result (List ℕ) RunStop). with_answer scratch_at (with_answer (128 * (pieces_in first)) r))
+          (joined ∙ ap (λ (n : ℕ). with_answer n more_others) (same_answer c 0 told.answer)))
           (first_asked (Allows tells) (shadow_entries (pieces_in first)) _ _ left3 w3 more_others left last more)
       | Halted stop run is_stop ↦
-          let told = tells_number_in tells law GetErrorLogAddressRangeAttributes Offset 0 left2 w2 (Err stop) left last (omega arith) long (omega (arith, spent, enough)) (subst (λ (p : Listed). Run (Allows tells) p 0 left2 w2 (Err stop) left last) (program-attributes (pieces_in first)) run) in
+          let told = tells_number_in tells law GetErrorLogAddressRangeAttributes Offset 0 left2 w2 (Err stop) left last (omega arith) long
+          (omega (arith, spent, enough)) (subst (λ (p : Listed). Run (Allows tells) p 0 left2 w2 (Err stop) left last) (program-attributes (pieces_in first))
+          run) in
           absurd (stop_no _ stop told.answer)
     ]
 
-    by_second : (left1 : ℕ) (w1 : MachineState) (others : Result (List ℕ) RunStop) → OnlyScratch first w1 → length w1.memory.scratch ≡ 4096 → left1 + 2 ≡ budget → attaches.answers ≡ with_answer scratch_at others
-        → FirstAsked (Allows tells) (shadow_entries (pieces_in first)) (request_of GetErrorLogAddressRangeLength) (request_of GetErrorLogAddressRangeAttributes ∷ request_of GetExecuteOperationTimings ∷ []) left1 w1 others left last
+    by_second : (left1 : ℕ) (w1 : MachineState) (others : Result (List ℕ) RunStop) → OnlyScratch first w1 → length w1.memory.scratch ≡ 4096 →
+        left1 + 2 ≡ budget → attaches.answers ≡ with_answer scratch_at others
+        → FirstAsked (Allows tells) (shadow_entries (pieces_in first)) (request_of GetErrorLogAddressRangeLength)
+        (request_of GetErrorLogAddressRangeAttributes ∷ request_of GetExecuteOperationTimings ∷ []) left1 w1 others left last
         → AttachesShadow budget first result left last
     by_second left1 w1 others is long spent answers_are asked = elim asked [
       | Went b left2 w2 more_others run more joined ↦
-          let told = tells_number_in tells law GetErrorLogAddressRangeLength Length (128 * (pieces_in first)) left1 w1 (Ok b) left2 w2 (omega (arith, rooms.few)) long (omega (arith, spent, enough)) (subst (λ (p : Listed). Run (Allows tells) p 0 left1 w1 (Ok b) left2 w2) (program-length (pieces_in first)) run) in
+          let told = tells_number_in tells law GetErrorLogAddressRangeLength Length (128 * (pieces_in first)) left1 w1 (Ok b) left2 w2
+          (omega (arith, rooms.few)) long (omega (arith, spent, enough)) (subst (λ (p : Listed). Run (Allows tells) p 0 left1 w1 (Ok b) left2 w2)
+          (program-length (pieces_in first)) run) in
           by_third left2 w2 more_others (scratch_then first w1 w2 is told.beside) told.long (omega (arith, told.left_is, spent))
           (answers_are ∙ ap (λ (r : Result (List ℕ) RunStop). with_answer scratch_at r) (joined ∙ ap (λ (n : ℕ). with_answer n more_others) (same_answer b (128 * (pieces_in first)) told.answer)))
           (first_asked (Allows tells) (shadow_entries (pieces_in first)) _ _ left2 w2 more_others left last more)
       | Halted stop run is_stop ↦
-          let told = tells_number_in tells law GetErrorLogAddressRangeLength Length (128 * (pieces_in first)) left1 w1 (Err stop) left last (omega (arith, rooms.few)) long (omega (arith, spent, enough)) (subst (λ (p : Listed). Run (Allows tells) p 0 left1 w1 (Err stop) left last) (program-length (pieces_in first)) run) in
+          let told = tells_number_in tells law GetErrorLogAddressRangeLength Length (128 * (pieces_in first)) left1 w1 (Err stop) left last
+          (omega (arith, rooms.few)) long (omega (arith, spent, enough)) (subst (λ (p : Listed). Run (Allows tells) p 0 left1 w1 (Err stop) left last)
+          (program-length (pieces_in first)) run) in
           absurd (stop_no _ stop told.answer)
     ]
 
     by_first : FirstAsked (Allows tells) (shadow_entries (pieces_in first)) (request_of GetErrorLogAddressRange)
-        (request_of GetErrorLogAddressRangeLength ∷ request_of GetErrorLogAddressRangeAttributes ∷ request_of GetExecuteOperationTimings ∷ []) budget first attaches.answers left last → AttachesShadow budget first result left last
+        (request_of GetErrorLogAddressRangeLength ∷ request_of GetErrorLogAddressRangeAttributes ∷ request_of GetExecuteOperationTimings ∷ []) budget first
+        attaches.answers left last → AttachesShadow budget first result left last
     by_first asked = elim asked [
       | Went a left1 w1 others run more joined ↦
           let told = told_range (Ok a) left1 w1 run in

@@ -84,8 +84,10 @@ module _ {W : Type 0} (allows : W → Call → W → Type 0) (from target count 
       let moved = step_behind entry b inner.at_rest m e more new (blind inner.at_rest.place entry there) inner.is_behind step in
       record { at_rest = moved.0; is_behind = moved.1; walk = WalkThen l inner.at_rest m entry moved.0 more after new inner.walk there moved.2 sum }
 
-  pub runs_behind : 0 < length behind → ((k : ℕ) (entry : Entry) (c : Configuration) (paid : ℕ) (w : W) (stop : RunStop) (left : ℕ) (v : W) → slice_get behind k ≡ Some entry → Halt allows (task_of whole given entry c) paid w stop left v → ⊥)
-      → (answer : Result ℕ RunStop) (left : ℕ) (last : W) → RunFrom allows whole given (standing 13 (128 * count) 128 from target) before mid answer left last → Run allows rest given before mid answer left last
+  pub runs_behind : 0 < length behind → ((k : ℕ) (entry : Entry) (c : Configuration) (paid : ℕ) (w : W) (stop : RunStop) (left : ℕ) (v : W) →
+      slice_get behind k ≡ Some entry → Halt allows (task_of whole given entry c) paid w stop left v → ⊥)
+      → (answer : Result ℕ RunStop) (left : ℕ) (last : W) → RunFrom allows whole given (standing 13 (128 * count) 128 from target) before mid answer left last →
+      Run allows rest given before mid answer left last
   runs_behind some never answer left last run = elim run as (λ answer left last run. Run allows rest given before mid answer left last) [
     | Finishes left c last walk ends ↦
         let is = follows left c last walk in

@@ -9,7 +9,8 @@ use Rattle.apei_space.specs.Calls.{WriteBytes, ReadBytes}
 use Rattle.record_model.specs.RecordMap.{Write, Clear}
 use Rattle.erst_client.specs.declared.errors.ClientError.{ClientError}
 use Rattle.erst_client.specs.declared.requests.Request.{Request}
-use Rattle.erst_client.specs.Commands.{Puts, NotPut, NotMarked, IsPut, Writes, IsNoRecord as refused, IsNotPut, IsAsked, copy_refusal, CopiesOut, IsFilled, IsNotFilled, copied, Reads, IsNotRead as not_read, HasNoLength, IsNotCopied as not_copied, IsCopied as is_copied}
+use Rattle.erst_client.specs.Commands.{Puts, NotPut, NotMarked, IsPut, Writes, IsNoRecord as refused, IsNotPut, IsAsked, copy_refusal, CopiesOut, IsFilled}
+use Rattle.erst_client.specs.Commands.{IsNotFilled, copied, Reads, IsNotRead as not_read, HasNoLength, IsNotCopied as not_copied, IsCopied as is_copied}
 use Rattle.erst_client.specs.Sequences.{write_requests, read_requests, clear_requests, dummy_requests, Sequence}
 use Rattle.erst_machine.specs.declared.areas.Area.TheVariants.{Scratch}
 use Rattle.erst_machine.specs.declared.areas.Location.{Location}
@@ -28,7 +29,8 @@ use Rattle.erst_commands.proofs.ReadLemmas.{read_command}
 use Rattle.erst_shadow.specs.ShadowTables.{shadow_entries}
 use Rattle.erst_shadow.specs.ShadowMoves.{holding}
 use Rattle.erst_shadow.specs.ShadowSequences.{SequenceAsOwn}
-use Rattle.erst_shadow.specs.ShadowCommands.{pieces_in, shadow_client, AsOwn, ShadowChange, ShadowDummy, ShadowWriteAnswered, IsNoRecord, IsWritten, ShadowRead, ShadowReadAnswered, IsNotRead, IsNotCopied, IsCopied}
+use Rattle.erst_shadow.specs.ShadowCommands.{pieces_in, shadow_client, AsOwn, ShadowChange, ShadowDummy, ShadowWriteAnswered, IsNoRecord, IsWritten, ShadowRead}
+use Rattle.erst_shadow.specs.ShadowCommands.{ShadowReadAnswered, IsNotRead, IsNotCopied, IsCopied}
 use Rattle.erst_shadow.proofs.SequenceLemmas.{write_as_own, clear_as_own, read_as_own, dummy_as_own}
 use Rattle.erst_shadow.proofs.Terms.{HoldsPieces, range_with_record}
 
@@ -65,11 +67,13 @@ length_moved state pieces rooms =
     length-put_at state.memory.range 0 (part state.memory.scratch 0 (128 * pieces)) (omega (arith, size, rooms.range))
 
 -- the log range holds the record that was moved into it
-holds_moved : (state : MachineState) (pieces id : ℕ) (bytes : List ℕ) → HoldsPieces state pieces → HoldsRecord state.memory.scratch id bytes → length bytes ≤ 128 * pieces → HoldsRecord (range_with_record pieces state) id bytes
+holds_moved : (state : MachineState) (pieces id : ℕ) (bytes : List ℕ) → HoldsPieces state pieces → HoldsRecord state.memory.scratch id bytes →
+    length bytes ≤ 128 * pieces → HoldsRecord (range_with_record pieces state) id bytes
 holds_moved state pieces id bytes rooms holds fits =
     let moved = part state.memory.scratch 0 (128 * pieces) in
     let size : length moved ≡ 128 * pieces = length-part state.memory.scratch 0 (128 * pieces) (omega (arith, rooms.scratch, rooms.few)) in
-    let there : part (range_with_record pieces state) 0 (128 * pieces) ≡ moved = ap (λ (k : ℕ). part (range_with_record pieces state) 0 k) (sym size) ∙ part-put_at state.memory.range 0 moved (omega (arith, size, rooms.range)) in
+    let there : part (range_with_record pieces state) 0 (128 * pieces) ≡ moved = ap (λ (k : ℕ). part (range_with_record pieces state) 0 k) (sym size)
+    ∙ part-put_at state.memory.range 0 moved (omega (arith, size, rooms.range)) in
     record {
       stands = sym (part-part (range_with_record pieces state) 0 (128 * pieces) 0 (length bytes) (omega arith) ∙ ap (λ (k : ℕ). part (range_with_record pieces state) k (length bytes)) (omega arith))
           ∙ ap (λ (xs : List ℕ). part xs 0 (length bytes)) there
@@ -81,8 +85,10 @@ holds_moved state pieces id bytes rooms holds fits =
     }
 
 -- a command by the machine's own table, from its sequence
-as_own : {tells : Type 0} {pieces : ℕ} {timings : Option (ℕ × ℕ)} {requests : List Request} {Own : MachineState → MachineState → ℕ → Result (Unit {0}) ClientError → ℕ → Type 0} (budget : ℕ) (first : MachineState) (result : Result (Unit {0}) ClientError) (left : ℕ) (last : MachineState)
-    (is : SequenceAsOwn tells pieces timings requests budget first result left last) → Own (holding (range_with_record pieces first) is.scratch first) is.own_last is.own_budget result is.own_left → AsOwn pieces first last Own budget result left
+as_own : {tells : Type 0} {pieces : ℕ} {timings : Option (ℕ × ℕ)} {requests : List Request} {Own : MachineState → MachineState → ℕ →
+    Result (Unit {0}) ClientError → ℕ → Type 0} (budget : ℕ) (first : MachineState) (result : Result (Unit {0}) ClientError) (left : ℕ) (last : MachineState)
+    (is : SequenceAsOwn tells pieces timings requests budget first result left last) → Own (holding (range_with_record pieces first) is.scratch first)
+    is.own_last is.own_budget result is.own_left → AsOwn pieces first last Own budget result left
 as_own {tells} {pieces} {timings} {requests} {Own} budget first result left last is own = record {
   own_first = holding (range_with_record pieces first) is.scratch first;
   own_last = is.own_last;
@@ -97,7 +103,8 @@ as_own {tells} {pieces} {timings} {requests} {Own} budget first result left last
 
 module _ (tells : Type 0) (own : OwnProgramsRun tells) where
   pub shadow_dummy : (first : MachineState) (pieces : ℕ) → HoldsPieces first pieces
-      → (budget : ℕ) (result : Result (Unit {0}) ClientError) (left : ℕ) (last : MachineState) → Sequence (Allows tells) (shadow_entries pieces) (own_client first).timings dummy_requests budget first result left last
+      → (budget : ℕ) (result : Result (Unit {0}) ClientError) (left : ℕ) (last : MachineState) → Sequence (Allows tells) (shadow_entries pieces)
+      (own_client first).timings dummy_requests budget first result left last
       → ShadowDummy pieces first last budget result left
   shadow_dummy first pieces rooms budget result left last sequence =
       let is = dummy_as_own tells own pieces (own_client first).timings budget first rooms result left last sequence in
@@ -105,8 +112,10 @@ module _ (tells : Type 0) (own : OwnProgramsRun tells) where
 
 module _ (tells : Type 0) (own : OwnProgramsRun tells) (told : tells) where
   -- the sequence of a write from a scratch memory that begins with the record
-  pub shadow_write : (first : MachineState) (pieces id : ℕ) (bytes : List ℕ) → HoldsPieces first pieces → HoldsRecord first.memory.scratch id bytes → length bytes ≤ 128 * pieces → 128 * pieces ≤ reach_in first.device
-      → (budget : ℕ) (result : Result (Unit {0}) ClientError) (left : ℕ) (last : MachineState) → Sequence (Allows tells) (shadow_entries pieces) (own_client first).timings write_requests budget first result left last
+  pub shadow_write : (first : MachineState) (pieces id : ℕ) (bytes : List ℕ) → HoldsPieces first pieces → HoldsRecord first.memory.scratch id bytes →
+      length bytes ≤ 128 * pieces → 128 * pieces ≤ reach_in first.device
+      → (budget : ℕ) (result : Result (Unit {0}) ClientError) (left : ℕ) (last : MachineState) → Sequence (Allows tells) (shadow_entries pieces)
+      (own_client first).timings write_requests budget first result left last
       → (change : ShadowChange pieces first last id (Write id bytes) write_requests budget result left) × (part change.own_first.memory.range 0 (length bytes) ≡ bytes)
   unfolding as_own
   shadow_write first pieces id bytes rooms holds fits reach budget result left last sequence =
@@ -118,21 +127,25 @@ module _ (tells : Type 0) (own : OwnProgramsRun tells) (told : tells) where
       )
 
   pub shadow_clear : (first : MachineState) (pieces id : ℕ) → HoldsPieces first pieces → id < 2 ^ 64
-      → (budget : ℕ) (result : Result (Unit {0}) ClientError) (left : ℕ) (last : MachineState) → Sequence (Allows tells) (shadow_entries pieces) (own_client first).timings (clear_requests id) budget first result left last
+      → (budget : ℕ) (result : Result (Unit {0}) ClientError) (left : ℕ) (last : MachineState) → Sequence (Allows tells) (shadow_entries pieces)
+      (own_client first).timings (clear_requests id) budget first result left last
       → ShadowChange pieces first last id (Clear id) (clear_requests id) budget result left
   shadow_clear first pieces id rooms small budget result left last sequence =
       let is = clear_as_own tells own pieces (own_client first).timings budget first rooms result left last id sequence in
-      as_own budget first result left last is (clear_command tells own told (holding (range_with_record pieces first) is.scratch first) id small is.own_budget result is.own_left is.own_last is.sequence)
+      as_own budget first result left last is (clear_command tells own told (holding (range_with_record pieces first) is.scratch first) id small is.own_budget
+      result is.own_left is.own_last is.sequence)
 
   -- the sequence of a read
-  pub shadow_read : (first : MachineState) (pieces id : ℕ) → IsMachine first → HoldsPieces first pieces → id < 2 ^ 64 → (budget : ℕ) (result : Result (Unit {0}) ClientError) (left : ℕ) (last : MachineState)
+  pub shadow_read : (first : MachineState) (pieces id : ℕ) → IsMachine first → HoldsPieces first pieces → id < 2 ^ 64 →
+      (budget : ℕ) (result : Result (Unit {0}) ClientError) (left : ℕ) (last : MachineState)
       → Sequence (Allows tells) (shadow_entries pieces) (own_client first).timings (read_requests id) budget first result left last
       → ShadowRead pieces first last id budget result left
   shadow_read first pieces id machine rooms small budget result left last sequence =
       let is = read_as_own tells own pieces (own_client first).timings budget first rooms result left last id sequence in
       let there = holding (range_with_record pieces first) is.scratch first in
       as_own budget first result left last is
-      (read_command tells own told there (is_machine_with first (range_with_record pieces first) is.scratch machine (length_moved first pieces rooms) is.long) id small (own_client first).timings is.own_budget result is.own_left is.own_last is.sequence)
+      (read_command tells own told there (is_machine_with first (range_with_record pieces first) is.scratch machine (length_moved first pieces rooms) is.long)
+      id small (own_client first).timings is.own_budget result is.own_left is.own_last is.sequence)
 
 -- A client's write: the record is put into the scratch memory
 
@@ -143,22 +156,26 @@ module _ (tells : Type 0) (first : MachineState) (machine : IsMachine first) (by
   small_range : length first.memory.range ≤ 65536
   small_range = (holds_pieces first machine).small
 
-  start_location : (answer : Result (Unit {0}) SpaceFault) (new : MachineState) → Allows tells first (WriteBytes 0x1000 bytes answer) new → (answer ≡ Ok tt) × (new ≡ with_scratch (put_at first.memory.scratch 0 bytes) first)
+  start_location : (answer : Result (Unit {0}) SpaceFault) (new : MachineState) → Allows tells first (WriteBytes 0x1000 bytes answer) new →
+      (answer ≡ Ok tt) × (new ≡ with_scratch (put_at first.memory.scratch 0 bytes) first)
   start_location answer new allowed =
       let location = area_found (length first.memory.range) Scratch 0 (length bytes) small_range (omega (arith, is.least)) (omega (arith, is.fits)) in
       (allowed.0 ∙ ap (λ (s : Location). (bytes_stored s first 0x1000 bytes).0) location, allowed.1 ∙ ap (λ (s : Location). (bytes_stored s first 0x1000 bytes).1) location)
 
-  mark_location : (mid : MachineState) (answer : Result (Unit {0}) SpaceFault) (new : MachineState) → mid ≡ with_scratch (put_at first.memory.scratch 0 bytes) first → Allows tells mid (WriteBytes 0x106C (codes "ER") answer) new
+  mark_location : (mid : MachineState) (answer : Result (Unit {0}) SpaceFault) (new : MachineState) → mid ≡ with_scratch (put_at first.memory.scratch 0 bytes)
+      first → Allows tells mid (WriteBytes 0x106C (codes "ER") answer) new
       → (answer ≡ Ok tt) × (new ≡ with_scratch (put_at first.memory.scratch 0 (marked bytes)) first)
   mark_location mid answer new mid_is allowed_at =
       let there = with_scratch (put_at first.memory.scratch 0 bytes) first in
       let allowed = subst (λ (m : MachineState). Allows tells m (WriteBytes 0x106C (codes "ER") answer) new) mid_is allowed_at in
       let location = area_found (length first.memory.range) Scratch 108 2 small_range (omega arith) (omega arith) in (
         allowed.0 ∙ ap (λ (s : Location). (bytes_stored s there 0x106C (codes "ER")).0) location,
-        allowed.1 ∙ ap (λ (s : Location). (bytes_stored s there 0x106C (codes "ER")).1) location ∙ ap (λ (scratch : List ℕ). with_scratch scratch first) (marked-put first.memory.scratch bytes (omega (arith, is.least))),
+        allowed.1 ∙ ap (λ (s : Location). (bytes_stored s there 0x106C (codes "ER")).1) location ∙ ap (λ (scratch : List ℕ). with_scratch scratch first)
+            (marked-put first.memory.scratch bytes (omega (arith, is.least))),
       )
 
-  pub puts_record : (result : Result (Unit {0}) ClientError) (mid : MachineState) → Puts (Allows tells) 0x1000 bytes first result mid → (result ≡ Ok tt) × (mid ≡ with_scratch (put_at first.memory.scratch 0 (marked bytes)) first)
+  pub puts_record : (result : Result (Unit {0}) ClientError) (mid : MachineState) → Puts (Allows tells) 0x1000 bytes first result mid →
+      (result ≡ Ok tt) × (mid ≡ with_scratch (put_at first.memory.scratch 0 (marked bytes)) first)
   puts_record result mid puts = elim puts as (λ result mid puts. (result ≡ Ok tt) × (mid ≡ with_scratch (put_at first.memory.scratch 0 (marked bytes)) first)) [
     | NotPut fault last allowed ↦ absurd (no_fault fault (start_location (Err fault) last allowed).0)
     | NotMarked between fault last allowed marks ↦ absurd (no_fault fault (mark_location between (Err fault) last (start_location (Ok tt) between allowed).1 marks).0)
@@ -166,7 +183,8 @@ module _ (tells : Type 0) (first : MachineState) (machine : IsMachine first) (by
   ]
 
 -- the machine with a marked record in its scratch memory still has room
-pub start_holds : (first : MachineState) → IsMachine first → (bytes : List ℕ) → IsRecord bytes (128 * pieces_in first) → HoldsPieces (with_scratch (put_at first.memory.scratch 0 (marked bytes)) first) (pieces_in first)
+pub start_holds : (first : MachineState) → IsMachine first → (bytes : List ℕ) → IsRecord bytes (128 * pieces_in first) →
+    HoldsPieces (with_scratch (put_at first.memory.scratch 0 (marked bytes)) first) (pieces_in first)
 start_holds first machine bytes framed =
     let rooms = holds_pieces first machine in
     let least = framed.least in
@@ -179,7 +197,8 @@ start_holds first machine bytes framed =
       few = rooms.few;
     }
 
-pub writes_as_map : (tells : Type 0) → OwnProgramsRun tells → tells → (bytes : List ℕ) (budget : ℕ) (first : MachineState) (result : Result (Unit {0}) ClientError) (left : ℕ) (last : MachineState) → IsMachine first
+pub writes_as_map : (tells : Type 0) → OwnProgramsRun tells → tells → (bytes : List ℕ) (budget : ℕ) (first : MachineState)
+    (result : Result (Unit {0}) ClientError) (left : ℕ) (last : MachineState) → IsMachine first
     → Writes (Allows tells) (shadow_client first) bytes budget first result left last → ShadowWriteAnswered bytes budget first result left last
 writes_as_map tells own told bytes budget first result left last machine writes = elim writes as (λ result left last writes. ShadowWriteAnswered bytes budget first result left last) [
   | refused error is ↦ IsNoRecord error is
@@ -193,7 +212,8 @@ writes_as_map tells own told bytes budget first result left last machine writes 
       let same = length-put_at bytes 108 (codes "ER") (omega arith) in
       let start = with_scratch (put_at first.memory.scratch 0 (marked bytes)) first in
       let holds = holds-marked first.memory.scratch bytes (record { least = framed.least; size = framed.size; fits = omega (arith, framed.fits, rooms.scratch, rooms.few) }) in
-      let change = shadow_write tells own told start pieces (id_of bytes) (marked bytes) (start_holds first machine bytes framed) holds (omega (arith, same, framed.fits)) (omega (arith, rooms.range, machine.sizes.range)) budget result left last
+      let change = shadow_write tells own told start pieces (id_of bytes) (marked bytes) (start_holds first machine bytes framed) holds
+      (omega (arith, same, framed.fits)) (omega (arith, rooms.range, machine.sizes.range)) budget result left last
       (subst (λ (m : MachineState). Sequence (Allows tells) (shadow_entries pieces) (own_client first).timings write_requests budget m result left last) there sequence) in
       IsWritten result left last is (record {
         own_first = change.0.own_first;
@@ -214,16 +234,21 @@ module _ (tells : Type 0) (mid : MachineState) (small : length mid.memory.range 
   pub length_read : (field : List ℕ) (answer : Result (Unit {0}) SpaceFault) (new : MachineState) → Allows tells mid (ReadBytes 0x1014 (0 ∷ 0 ∷ 0 ∷ 0 ∷ []) field answer) new
       → (answer ≡ Ok tt) × (field ≡ part mid.memory.scratch 20 4) × (new ≡ mid)
   length_read field answer new allowed =
-      let location = area_found (length mid.memory.range) Scratch 20 4 small (omega arith) (omega arith) in
-      (allowed.0 ∙ ap (λ (s : Location). (bytes_read s mid 0x1014 (0 ∷ 0 ∷ 0 ∷ 0 ∷ [])).0) location, allowed.1 ∙ ap (λ (s : Location). (bytes_read s mid 0x1014 (0 ∷ 0 ∷ 0 ∷ 0 ∷ [])).1) location, allowed.2)
+      let location = area_found (length mid.memory.range) Scratch 20 4 small (omega arith) (omega arith) in (
+        allowed.0 ∙ ap (λ (s : Location). (bytes_read s mid 0x1014 (0 ∷ 0 ∷ 0 ∷ 0 ∷ [])).0) location,
+        allowed.1 ∙ ap (λ (s : Location). (bytes_read s mid 0x1014 (0 ∷ 0 ∷ 0 ∷ 0 ∷ [])).1) location,
+        allowed.2,
+      )
 
-  scratch_read : (before after : List ℕ) (answer : Result (Unit {0}) SpaceFault) (new : MachineState) → 0 < length before → length before ≤ 4096 → Allows tells mid (ReadBytes 0x1000 before after answer) new
+  scratch_read : (before after : List ℕ) (answer : Result (Unit {0}) SpaceFault) (new : MachineState) → 0 < length before → length before ≤ 4096 →
+      Allows tells mid (ReadBytes 0x1000 before after answer) new
       → (answer ≡ Ok tt) × (after ≡ part mid.memory.scratch 0 (length before)) × (new ≡ mid)
   scratch_read before after answer new some fits allowed =
       let location = area_found (length mid.memory.range) Scratch 0 (length before) small some (omega arith) in
       (allowed.0 ∙ ap (λ (s : Location). (bytes_read s mid 0x1000 before).0) location, allowed.1 ∙ ap (λ (s : Location). (bytes_read s mid 0x1000 before).1) location, allowed.2)
 
-  copied_out : (before after : List ℕ) (answer : Result (Unit {0}) ClientError) (new : MachineState) → 0 < length before → length before ≤ 4096 → CopiesOut (Allows tells) 0x1000 before after mid answer new
+  copied_out : (before after : List ℕ) (answer : Result (Unit {0}) ClientError) (new : MachineState) → 0 < length before → length before ≤ 4096 →
+      CopiesOut (Allows tells) 0x1000 before after mid answer new
       → (answer ≡ Ok tt) × (after ≡ part mid.memory.scratch 0 (length before)) × (new ≡ mid)
   copied_out before after answer new some fits copies = elim copies as (λ answer new copies. (answer ≡ Ok tt) × (after ≡ part mid.memory.scratch 0 (length before)) × (new ≡ mid)) [
     | IsFilled new allowed ↦ let read = scratch_read before after (Ok tt) new some fits allowed in (refl, read.1, read.2)
@@ -243,7 +268,8 @@ module _ (tells : Type 0) (own : OwnProgramsRun tells) (told : tells) (id : ℕ)
       let least = reach-least first.device.store.layout in
       let within : 20 + 4 ≤ 128 * pieces_in first = omega (arith, least) in
       ap (λ (xs : List ℕ). number_at xs 0 4) is ∙ number_at-part mid.memory.scratch 20 4 0 4 (omega arith)
-      ∙ sym (number_at-part mid.memory.scratch 0 (128 * pieces_in first) 20 4 within) ∙ ap (λ (xs : List ℕ). number_at xs 20 4) has.shown.moved ∙ number_at-part has.own_last.memory.range 0 (128 * pieces_in first) 20 4 within
+      ∙ sym (number_at-part mid.memory.scratch 0 (128 * pieces_in first) 20 4 within) ∙ ap (λ (xs : List ℕ). number_at xs 20 4) has.shown.moved ∙ number_at-part
+      has.own_last.memory.range 0 (128 * pieces_in first) 20 4 within
 
   by_length : (left : ℕ) (mid : MachineState) (has : HasRead left mid) (next : MachineState) (whole : List ℕ) (answer : Result (Unit {0}) ClientError) (last : MachineState)
       → (len : ℕ) → len ≡ number_at has.own_last.memory.range 20 4 → next ≡ mid → copy_refusal len (128 * pieces_in first) (length out) ≡ None

@@ -15,7 +15,8 @@ use Rattle.erst_commands.specs.Attached.{own_client}
 use Rattle.erst_commands.specs.Causes.{GoesThrough}
 use Rattle.erst_commands.proofs.EnoughLemmas.{HasSteps}
 use Rattle.erst_commands.proofs.LimitLemmas.{most-small}
-use Rattle.erst_commands.proofs.ThroughLemmas.{write_through as own_write_through, clear_through as own_clear_through, read_through as own_read_through, dummy_through as own_dummy_through, writes_through, reads_through}
+use Rattle.erst_commands.proofs.ThroughLemmas.{write_through as own_write_through, clear_through as own_clear_through, read_through as own_read_through}
+use Rattle.erst_commands.proofs.ThroughLemmas.{dummy_through as own_dummy_through, writes_through, reads_through}
 use Rattle.erst_shadow.specs.ShadowTables.{shadow_entries, pieces_of}
 use Rattle.erst_shadow.specs.ShadowMoves.{holding}
 use Rattle.erst_shadow.specs.ShadowSequences.{SequenceAsOwn}
@@ -34,7 +35,8 @@ enough-all state = by_number (most_changes state.device.store.layout) (pieces_in
 
 module _ (tells : Type 0) (own : OwnProgramsRun tells) (first : MachineState) (machine : IsMachine first) (budget : ℕ) (enough : enough_steps (own_client first).timings ≤ budget) where
   -- the machine's own programs have all of them but those of both moves
-  own_steps : (requests : List Request) (result : Result (Unit {0}) ClientError) (left : ℕ) (last : MachineState) (is : SequenceAsOwn tells (pieces_in first) (own_client first).timings requests budget first result left last)
+  own_steps : (requests : List Request) (result : Result (Unit {0}) ClientError) (left : ℕ) (last : MachineState)
+      (is : SequenceAsOwn tells (pieces_in first) (own_client first).timings requests budget first result left last)
       → HasSteps first.device.store.layout is.own_budget
   own_steps requests result left last is =
       let paid = own_paid (pieces_in first) budget result left is.own_budget is.own_left is.paid in
@@ -43,29 +45,35 @@ module _ (tells : Type 0) (own : OwnProgramsRun tells) (first : MachineState) (m
   own_range : length (range_with_record (pieces_in first) first) ≡ reach_in first.device
   own_range = length_moved first (pieces_in first) (holds_pieces first machine) ∙ machine.sizes.range
 
-  pub write_through : (result : Result (Unit {0}) ClientError) (left : ℕ) (last : MachineState) → Sequence (Allows tells) (shadow_entries (pieces_in first)) (own_client first).timings write_requests budget first result left last
+  pub write_through : (result : Result (Unit {0}) ClientError) (left : ℕ) (last : MachineState) → Sequence (Allows tells) (shadow_entries (pieces_in first))
+      (own_client first).timings write_requests budget first result left last
       → GoesThrough result
   write_through result left last sequence =
       let is = write_as_own tells own (pieces_in first) (own_client first).timings budget first (holds_pieces first machine) result left last sequence in
-      own_write_through tells own (holding (range_with_record (pieces_in first) first) is.scratch first) is.own_budget (own_steps write_requests result left last is) own_range result is.own_left is.own_last is.sequence
+      own_write_through tells own (holding (range_with_record (pieces_in first) first) is.scratch first) is.own_budget
+      (own_steps write_requests result left last is) own_range result is.own_left is.own_last is.sequence
 
   pub clear_through : (id : ℕ) → id < 2 ^ 64 → (result : Result (Unit {0}) ClientError) (left : ℕ) (last : MachineState)
       → Sequence (Allows tells) (shadow_entries (pieces_in first)) (own_client first).timings (clear_requests id) budget first result left last → GoesThrough result
   clear_through id small result left last sequence =
       let is = clear_as_own tells own (pieces_in first) (own_client first).timings budget first (holds_pieces first machine) result left last id sequence in
-      own_clear_through tells own (holding (range_with_record (pieces_in first) first) is.scratch first) is.own_budget (own_steps (clear_requests id) result left last is) own_range id small result is.own_left is.own_last is.sequence
+      own_clear_through tells own (holding (range_with_record (pieces_in first) first) is.scratch first) is.own_budget
+      (own_steps (clear_requests id) result left last is) own_range id small result is.own_left is.own_last is.sequence
 
   pub read_through : (id : ℕ) → id < 2 ^ 64 → (result : Result (Unit {0}) ClientError) (left : ℕ) (last : MachineState)
       → Sequence (Allows tells) (shadow_entries (pieces_in first)) (own_client first).timings (read_requests id) budget first result left last → GoesThrough result
   read_through id small result left last sequence =
       let is = read_as_own tells own (pieces_in first) (own_client first).timings budget first (holds_pieces first machine) result left last id sequence in
-      own_read_through tells own (holding (range_with_record (pieces_in first) first) is.scratch first) is.own_budget (own_steps (read_requests id) result left last is) own_range id small result is.own_left is.own_last is.sequence
+      own_read_through tells own (holding (range_with_record (pieces_in first) first) is.scratch first) is.own_budget
+      (own_steps (read_requests id) result left last is) own_range id small result is.own_left is.own_last is.sequence
 
-  pub dummy_through : (result : Result (Unit {0}) ClientError) (left : ℕ) (last : MachineState) → Sequence (Allows tells) (shadow_entries (pieces_in first)) (own_client first).timings dummy_requests budget first result left last
+  pub dummy_through : (result : Result (Unit {0}) ClientError) (left : ℕ) (last : MachineState) → Sequence (Allows tells) (shadow_entries (pieces_in first))
+      (own_client first).timings dummy_requests budget first result left last
       → GoesThrough result
   dummy_through result left last sequence =
       let is = dummy_as_own tells own (pieces_in first) (own_client first).timings budget first (holds_pieces first machine) result left last sequence in
-      own_dummy_through tells own (holding (range_with_record (pieces_in first) first) is.scratch first) is.own_budget (own_steps dummy_requests result left last is) own_range result is.own_left is.own_last is.sequence
+      own_dummy_through tells own (holding (range_with_record (pieces_in first) first) is.scratch first) is.own_budget
+      (own_steps dummy_requests result left last is) own_range result is.own_left is.own_last is.sequence
 
 -- A client's write and read
 
@@ -83,10 +91,12 @@ module _ (tells : Type 0) (own : OwnProgramsRun tells) (first : MachineState) (m
       write_through tells own mid is budget (subst (λ (l : Layout). enough_steps (timings_by l) ≤ budget) (sym same) enough) result left last
       (subst (λ (l : Layout). Sequence (Allows tells) (shadow_entries (pieces_by l)) (timings_by l) write_requests budget mid result left last) (sym same) sequence)
 
-  pub client_write_through : (bytes : List ℕ) (result : Result (Unit {0}) ClientError) (left : ℕ) (last : MachineState) → Writes (Allows tells) (shadow_client first) bytes budget first result left last → GoesThrough result
+  pub client_write_through : (bytes : List ℕ) (result : Result (Unit {0}) ClientError) (left : ℕ) (last : MachineState) →
+      Writes (Allows tells) (shadow_client first) bytes budget first result left last → GoesThrough result
   client_write_through bytes result left last = writes_through tells (shadow_client first) bytes budget first machine result left last asked_through
 
-  pub client_read_through : (id : ℕ) → id < 2 ^ 64 → (out : List ℕ) (result : Result ℕ ClientError) (after : List ℕ) (left : ℕ) (last : MachineState) → Reads (Allows tells) (shadow_client first) id out budget first result after left last
+  pub client_read_through : (id : ℕ) → id < 2 ^ 64 → (out : List ℕ) (result : Result ℕ ClientError) (after : List ℕ) (left : ℕ) (last : MachineState) →
+      Reads (Allows tells) (shadow_client first) id out budget first result after left last
       → GoesThrough result
   client_read_through id small out result after left last =
       reads_through tells (shadow_client first) id out budget first result after left last (read_through tells own first machine budget enough id small)

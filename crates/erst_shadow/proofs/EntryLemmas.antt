@@ -73,7 +73,8 @@ abbrev pub of_var2 : Taken
 of_var2 = record { code = 0x06; instruction = LoadVar2; has_code = refl; taken = λ n c. record c { var2 = n }; works = λ task. refl }
 
 module _ {W : Type 0} (allows : W → Call → W → Type 0) (fits : W → Type 0) (from target count : ℕ) (space : ServesMove allows fits from target count) where
-  pub reads_number : (r : MoveRegister) (register : Register) (old new : W) (x known : ℕ) → checked (register_of 64 4 (address_of r)) ≡ Ok register → FieldRead allows register (2 ^ 64 - 1) old (Ok x) new → fits old → space.value r old ≡ known → known < 2 ^ 64
+  pub reads_number : (r : MoveRegister) (register : Register) (old new : W) (x known : ℕ) → checked (register_of 64 4 (address_of r)) ≡ Ok register →
+      FieldRead allows register (2 ^ 64 - 1) old (Ok x) new → fits old → space.value r old ≡ known → known < 2 ^ 64
       → (x ≡ known) × (new ≡ old)
   reads_number r register old new x known region read fit value_is small =
       let is : register ≡ register_at r = same_register (register_at r) register (checked (register_of 64 4 (address_of r))) refl region in
@@ -82,7 +83,8 @@ module _ {W : Type 0} (allows : W → Call → W → Type 0) (fits : W → Type 
       let number : got.0 ≡ known = same_number got.0 (space.value r old) reads.0 ∙ value_is in
       (got.1.0 ∙ ap (λ (n : ℕ). field n 0 (2 ^ 64 - 1)) number ∙ field_whole known small, reads.1)
 
-  pub reads_always : (r : MoveRegister) (register : Register) (old new : W) (fault : SpaceFault) → checked (register_of 64 4 (address_of r)) ≡ Ok register → FieldRead allows register (2 ^ 64 - 1) old (Err fault) new → fits old → ⊥
+  pub reads_always : (r : MoveRegister) (register : Register) (old new : W) (fault : SpaceFault) → checked (register_of 64 4 (address_of r)) ≡ Ok register →
+      FieldRead allows register (2 ^ 64 - 1) old (Err fault) new → fits old → ⊥
   reads_always r register old new fault region read fit =
       let is : register ≡ register_at r = same_register (register_at r) register (checked (register_of 64 4 (address_of r))) refl region in
       let refused = refused_of allows (register_at r) (2 ^ 64 - 1) old (Err fault) new fault (subst (λ (reg : Register). FieldRead allows reg (2 ^ 64 - 1) old (Err fault) new) is read) refl in
@@ -107,20 +109,24 @@ module _ {W : Type 0} (allows : W → Call → W → Type 0) (fits : W → Type 
   -- Each kind of entry, in any program
 
   module _ (program : Listed) (given : ℕ) (action : Action) where
-    pub puts_number : (r : MoveRegister) (value : ℕ) (entry : Entry) (c : Configuration) (old : W) (d : Configuration) (more : ℕ) (new : W) → put_number action r value ≡ entry → value < 2 ^ 64 → fits old
+    pub puts_number : (r : MoveRegister) (value : ℕ) (entry : Entry) (c : Configuration) (old : W) (d : Configuration) (more : ℕ) (new : W) →
+        put_number action r value ≡ entry → value < 2 ^ 64 → fits old
         → Step allows (task_of program given entry c) old d more new → HasDone d more new (next c) 0 (space.put r value old)
     puts_number r value entry c old d more new is small fit step =
-        let did = step_by allows (task_of program given (put_number action r value) c) WriteRegisterValue refl old d more new (subst (λ (e : Entry). Step allows (task_of program given e c) old d more new) (sym is) step) in
+        let did = step_by allows (task_of program given (put_number action r value) c) WriteRegisterValue refl old d more new
+        (subst (λ (e : Entry). Step allows (task_of program given e c) old d more new) (sym is) step) in
         record { goes = did.1; only = did.2; left = writes_number r did.0 action 0x3 value value old new did.3 did.4 fit small }
 
     pub stores_var1 : (r : MoveRegister) (entry : Entry) (c : Configuration) (old : W) (d : Configuration) (more : ℕ) (new : W) → use_register action 0x07 r ≡ entry → c.var1 < 2 ^ 64 → fits old
         → Step allows (task_of program given entry c) old d more new → HasDone d more new (next c) 0 (space.put r c.var1 old)
     stores_var1 r entry c old d more new is small fit step =
-        let did = step_by allows (task_of program given (use_register action 0x07 r) c) StoreVar1 refl old d more new (subst (λ (e : Entry). Step allows (task_of program given e c) old d more new) (sym is) step) in
+        let did = step_by allows (task_of program given (use_register action 0x07 r) c) StoreVar1 refl old d more new
+        (subst (λ (e : Entry). Step allows (task_of program given e c) old d more new) (sym is) step) in
         record { goes = did.1; only = did.2; left = writes_number r did.0 action 0x07 0 c.var1 old new did.3 did.4 fit small }
 
     -- an instruction that takes what a register of a move holds
-    pub takes : (into : Taken) (r : MoveRegister) (known : ℕ) (entry : Entry) (c : Configuration) (old : W) (d : Configuration) (more : ℕ) (new : W) → use_register action into.code r ≡ entry → space.value r old ≡ known → known < 2 ^ 64 → fits old
+    pub takes : (into : Taken) (r : MoveRegister) (known : ℕ) (entry : Entry) (c : Configuration) (old : W) (d : Configuration) (more : ℕ) (new : W) →
+        use_register action into.code r ≡ entry → space.value r old ≡ known → known < 2 ^ 64 → fits old
         → Step allows (task_of program given entry c) old d more new → HasDone d more new (into.taken known (next c)) 0 old
     takes into r known entry c old d more new is value_is small fit step =
         let task = task_of program given (use_register action into.code r) c in
@@ -132,30 +138,38 @@ module _ {W : Type 0} (allows : W → Call → W → Type 0) (fits : W → Type 
     pub adds_both : (entry : Entry) (c : Configuration) (old : W) (d : Configuration) (more : ℕ) (new : W) → plain_entry action 0x08 (register_of 0 0 0) 0 0 ≡ entry
         → Step allows (task_of program given entry c) old d more new → HasDone d more new (record (next c) { var1 = (c.var1 + c.var2) % 2 ^ 64 }) 0 old
     adds_both entry c old d more new is step =
-        let did = step_by allows (task_of program given (plain_entry action 0x08 (register_of 0 0 0) 0 0) c) Add refl old d more new (subst (λ (e : Entry). Step allows (task_of program given e c) old d more new) (sym is) step) in
+        let did = step_by allows (task_of program given (plain_entry action 0x08 (register_of 0 0 0) 0 0) c) Add refl old d more new
+        (subst (λ (e : Entry). Step allows (task_of program given e c) old d more new) (sym is) step) in
         record { goes = did.0; only = did.1; left = did.2 }
 
     pub goes_to : (to : ℕ) (entry : Entry) (c : Configuration) (old : W) (d : Configuration) (more : ℕ) (new : W) → plain_entry action 0x0F (register_of 0 0 0) to 0 ≡ entry
         → Step allows (task_of program given entry c) old d more new → HasDone d more new (record (next c) { place = to }) 0 old
     goes_to to entry c old d more new is step =
-        let did = step_by allows (task_of program given (plain_entry action 0x0F (register_of 0 0 0) to 0) c) Goto refl old d more new (subst (λ (e : Entry). Step allows (task_of program given e c) old d more new) (sym is) step) in
+        let did = step_by allows (task_of program given (plain_entry action 0x0F (register_of 0 0 0) to 0) c) Goto refl old d more new
+        (subst (λ (e : Entry). Step allows (task_of program given e c) old d more new) (sym is) step) in
         record { goes = did.0; only = did.1; left = did.2 }
 
-    pub skips_or_goes : (r : MoveRegister) (size known : ℕ) (entry : Entry) (c : Configuration) (old : W) (d : Configuration) (more : ℕ) (new : W) → plain_entry action 0x0E (register_of 64 4 (address_of r)) size (2 ^ 64 - 1) ≡ entry → space.value r old ≡ known
+    pub skips_or_goes : (r : MoveRegister) (size known : ℕ) (entry : Entry) (c : Configuration) (old : W) (d : Configuration) (more : ℕ) (new : W) →
+        plain_entry action 0x0E (register_of 64 4 (address_of r)) size (2 ^ 64 - 1) ≡ entry → space.value r old ≡ known
         → known < 2 ^ 64 → fits old → Step allows (task_of program given entry c) old d more new → HasDone d more new (if known == size then next (next c) else next c) 0 old
     skips_or_goes r size known entry c old d more new is value_is small fit step =
-        let did = step_by allows (task_of program given (plain_entry action 0x0E (register_of 64 4 (address_of r)) size (2 ^ 64 - 1)) c) SkipNextIfTrue refl old d more new (subst (λ (e : Entry). Step allows (task_of program given e c) old d more new) (sym is) step) in
+        let did = step_by allows (task_of program given (plain_entry action 0x0E (register_of 64 4 (address_of r)) size (2 ^ 64 - 1)) c) SkipNextIfTrue refl old
+        d more new (subst (λ (e : Entry). Step allows (task_of program given e c) old d more new) (sym is) step) in
         let read = reads_number r did.0 old new did.1 known did.4 did.5 fit value_is small in
         record { goes = did.2 ∙ ap (λ (n : ℕ). if n == size then next (next c) else next c) read.0; only = did.3; left = read.1 }
 
-    pub copies_piece : (r : MoveRegister) (i : ℕ) (entry : Entry) (c : Configuration) (old : W) (d : Configuration) (more : ℕ) (new : W) → use_register action 0x12 r ≡ entry → space.value r old ≡ 128 * i → i < count
+    pub copies_piece : (r : MoveRegister) (i : ℕ) (entry : Entry) (c : Configuration) (old : W) (d : Configuration) (more : ℕ) (new : W) →
+        use_register action 0x12 r ≡ entry → space.value r old ≡ 128 * i → i < count
         → from + 128 * count < 2 ^ 64 → target + 128 * count < 2 ^ 64 → c.source ≡ from → c.target ≡ target → c.var2 ≡ 128 → fits old
         → Step allows (task_of program given entry c) old d more new → HasDone d more new (next c) 2 (space.copied i old)
     copies_piece r i entry c old d more new is value_is within source_fits target_fits source_is target_is size_is fit step =
-        let did = step_by allows (task_of program given (use_register action 0x12 r) c) MoveData refl old d more new (subst (λ (e : Entry). Step allows (task_of program given e c) old d more new) (sym is) step) in
+        let did = step_by allows (task_of program given (use_register action 0x12 r) c) MoveData refl old d more new
+        (subst (λ (e : Entry). Step allows (task_of program given e c) old d more new) (sym is) step) in
         let read = reads_number r did.0 old did.2 did.1 (128 * i) did.5 did.6 fit value_is (omega (arith, within, source_fits)) in
-        let source : (c.source + did.1) % 2 ^ 64 ≡ from + 128 * i = ap (λ (n : ℕ). (n + did.1) % 2 ^ 64) source_is ∙ ap (λ (n : ℕ). (from + n) % 2 ^ 64) read.0 ∙ (omega (arith, within, source_fits)) in
-        let sink : (c.target + did.1) % 2 ^ 64 ≡ target + 128 * i = ap (λ (n : ℕ). (n + did.1) % 2 ^ 64) target_is ∙ ap (λ (n : ℕ). (target + n) % 2 ^ 64) read.0 ∙ (omega (arith, within, target_fits)) in
+        let source : (c.source + did.1) % 2 ^ 64 ≡ from + 128 * i = ap (λ (n : ℕ). (n + did.1) % 2 ^ 64) source_is ∙ ap (λ (n : ℕ). (from + n) % 2 ^ 64) read.0
+        ∙ (omega (arith, within, source_fits)) in
+        let sink : (c.target + did.1) % 2 ^ 64 ≡ target + 128 * i = ap (λ (n : ℕ). (n + did.1) % 2 ^ 64) target_is ∙ ap (λ (n : ℕ). (target + n) % 2 ^ 64)
+        read.0 ∙ (omega (arith, within, target_fits)) in
         let copies = subst (λ (w : W). allows w (Copy ((c.source + did.1) % 2 ^ 64) ((c.target + did.1) % 2 ^ 64) c.var2 (Ok tt)) new) read.1 did.7 in
         let asked = subst (λ (n : ℕ). allows old (Copy n (target + 128 * i) 128 (Ok tt)) new) source
         (subst (λ (n : ℕ). allows old (Copy ((c.source + did.1) % 2 ^ 64) n 128 (Ok tt)) new) sink

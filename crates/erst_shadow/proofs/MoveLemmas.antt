@@ -81,10 +81,12 @@ value r w = number_at w.memory.scratch (place_in r) 8
 abbrev pub put : MoveRegister → ℕ → MachineState → MachineState
 put r n w = record w { memory = record w.memory { scratch = put_at w.memory.scratch (place_in r) (spelled 8 n) } }
 
-pub register_read : (tells : Type 0) (w v : MachineState) (r : MoveRegister) (answer : Result ℕ SpaceFault) → Allows tells w (Read (Memory (address_of r)) B64 answer) v → (answer ≡ Ok (value r w)) × (v ≡ w)
+pub register_read : (tells : Type 0) (w v : MachineState) (r : MoveRegister) (answer : Result ℕ SpaceFault) →
+    Allows tells w (Read (Memory (address_of r)) B64 answer) v → (answer ≡ Ok (value r w)) × (v ≡ w)
 register_read tells w v r answer h = (h.0 ∙ ap (λ (s : Location). number_read s w (address_of r) B64) (register_location (length w.memory.range) r), h.1)
 
-pub register_written : (tells : Type 0) (w v : MachineState) (r : MoveRegister) (n : ℕ) (answer : Result (Unit {0}) SpaceFault) → Allows tells w (Write (Memory (address_of r)) B64 n answer) v → (answer ≡ Ok tt) × (v ≡ put r n w)
+pub register_written : (tells : Type 0) (w v : MachineState) (r : MoveRegister) (n : ℕ) (answer : Result (Unit {0}) SpaceFault) →
+    Allows tells w (Write (Memory (address_of r)) B64 n answer) v → (answer ≡ Ok tt) × (v ≡ put r n w)
 register_written tells w v r n answer h = subst (λ (s : Location). NumberWritten tells s w (write_of (address_of r) B64 n answer) v) (register_location (length w.memory.range) r) h
 
 put_long : (first w : MachineState) (r : MoveRegister) (n : ℕ) → KeepsOthers first w → place_in r + length (spelled 8 n) ≤ length w.memory.scratch
@@ -110,7 +112,8 @@ pub record KeepsRange (first w : MachineState) : Type 0 where
   pub kept : w.memory.range ≡ first.memory.range
 
 -- a copy between two places that are found
-copied_by : (tells : Type 0) (w v : MachineState) (from target n : ℕ) (source sink : Location) (answer : Result (Unit {0}) SpaceFault) → location_of w (Memory from) n ≡ source → location_of w (Memory target) n ≡ sink
+copied_by : (tells : Type 0) (w v : MachineState) (from target n : ℕ) (source sink : Location) (answer : Result (Unit {0}) SpaceFault) →
+    location_of w (Memory from) n ≡ source → location_of w (Memory target) n ≡ sink
     → Allows tells w (Copy from target n answer) v → (answer ≡ (copy_of source sink w from target n).0) × (v ≡ (copy_of source sink w from target n).1)
 copied_by tells w v from target n source sink answer source_is sink_is h =
     let outcome : copy_of (location_of w (Memory from) n) (location_of w (Memory target) n) w from target n ≡ copy_of source sink w from target n =
@@ -121,7 +124,8 @@ copied_by tells w v from target n source sink answer source_is sink_is h =
 abbrev served : (tells : Type 0) (first : MachineState) (fits : MachineState → Type 0) (from target count : ℕ) (piece : ℕ → MachineState → MachineState)
     → ((w : MachineState) → fits w → KeepsOthers first w)
     → ((w : MachineState) (r : MoveRegister) (n : ℕ) → fits w → fits (put r n w))
-    → ((w v : MachineState) (i : ℕ) (answer : Result (Unit {0}) SpaceFault) → fits w → i < count → Allows tells w (Copy (from + 128 * i) (target + 128 * i) 128 answer) v → (answer ≡ Ok tt) × (v ≡ piece i w))
+    → ((w v : MachineState) (i : ℕ) (answer : Result (Unit {0}) SpaceFault) → fits w → i < count →
+    Allows tells w (Copy (from + 128 * i) (target + 128 * i) 128 answer) v → (answer ≡ Ok tt) × (v ≡ piece i w))
     → ((w : MachineState) (i : ℕ) → fits w → i < count → fits (piece i w))
     → ((w : MachineState) (r : MoveRegister) (i : ℕ) → fits w → i < count → value r (piece i w) ≡ value r w)
     → ServesMove (Allows tells) fits from target count
@@ -178,7 +182,8 @@ module _ (tells : Type 0) (first : MachineState) (count : ℕ) (room : HoldsPiec
 
   pub space_in : ServesMove (Allows tells) (KeepsOthers first) scratch_at log_range_at count
   space_in = served tells first (KeepsOthers first) scratch_at log_range_at count piece_in (λ w comes. comes) (λ w r n comes. put_comes first w r n comes)
-      (λ w v i answer comes less h. copied_by tells w v (scratch_at + 128 * i) (log_range_at + 128 * i) 128 (Inside Scratch (128 * i)) (Inside LogRange (128 * i)) answer (scratch_location w i comes less) (range_location w i comes less) h)
+      (λ w v i answer comes less h. copied_by tells w v (scratch_at + 128 * i) (log_range_at + 128 * i) 128 (Inside Scratch (128 * i))
+      (Inside LogRange (128 * i)) answer (scratch_location w i comes less) (range_location w i comes less) h)
       (λ w i comes less. record {
         range = length-put_at w.memory.range (128 * i) (part w.memory.scratch (128 * i) 128) (fits_range w i comes less) ∙ comes.range;
         scratch = comes.scratch;
@@ -201,7 +206,8 @@ module _ (tells : Type 0) (first : MachineState) (count : ℕ) (room : HoldsPiec
     record_kept = part-beside w.memory.scratch (spelled 8 n) (place_in r) 0 0xF80 (put_long first w r n is.comes) (inl (let low = (register_low r).0 in omega arith)) ∙ is.record_kept;
   }
 
-  piece_kept : (w : MachineState) (i : ℕ) → i < count → part w.memory.scratch 0 0xF80 ≡ part first.memory.scratch 0 0xF80 → part w.memory.scratch (128 * i) 128 ≡ part first.memory.scratch (128 * i) 128
+  piece_kept : (w : MachineState) (i : ℕ) → i < count → part w.memory.scratch 0 0xF80 ≡ part first.memory.scratch 0 0xF80 → part w.memory.scratch (128 * i) 128
+      ≡ part first.memory.scratch (128 * i) 128
   piece_kept w i less kept =
       let few = room.few in
       sym (part-part w.memory.scratch 0 0xF80 (128 * i) 128 (omega arith) ∙ ap (λ (k : ℕ). part w.memory.scratch k 128) (omega arith)) ∙ ap (λ (xs : List ℕ). part xs (128 * i) 128) kept
@@ -217,7 +223,8 @@ module _ (tells : Type 0) (first : MachineState) (count : ℕ) (room : HoldsPiec
         comes = space_in.copied_fits w i is.comes less;
         same = SameOutside-then 0 (128 * suc i) first.memory.range w.memory.range (put_at w.memory.range (128 * i) others)
             (SameOutside-wider 0 (128 * i) 0 (128 * suc i) first.memory.range w.memory.range (omega arith) (omega arith) is.same)
-            (SameOutside-wider (128 * i) (length others) 0 (128 * suc i) w.memory.range (put_at w.memory.range (128 * i) others) (omega arith) (omega (arith, size)) (SameOutside-put_at w.memory.range (128 * i) others fits));
+            (SameOutside-wider (128 * i) (length others) 0 (128 * suc i) w.memory.range (put_at w.memory.range (128 * i) others) (omega arith)
+            (omega (arith, size)) (SameOutside-put_at w.memory.range (128 * i) others fits));
         there = piece_behind i w.memory.range first.memory.scratch others size fits is.there (piece_kept w i less is.record_kept);
         record_kept = is.record_kept;
       }
@@ -253,8 +260,10 @@ module _ (tells : Type 0) (first : MachineState) (count : ℕ) (room : HoldsPiec
 
   -- the log range stays as it is
   pub space_out : ServesMove (Allows tells) (KeepsRange first) log_range_at scratch_at count
-  space_out = served tells first (KeepsRange first) log_range_at scratch_at count piece_out (λ w stays. stays.comes) (λ w r n stays. record { comes = put_comes first w r n stays.comes; kept = stays.kept })
-      (λ w v i answer stays less h. copied_by tells w v (log_range_at + 128 * i) (scratch_at + 128 * i) 128 (Inside LogRange (128 * i)) (Inside Scratch (128 * i)) answer (range_location w i stays.comes less) (scratch_location w i stays.comes less) h)
+  space_out = served tells first (KeepsRange first) log_range_at scratch_at count piece_out (λ w stays. stays.comes)
+      (λ w r n stays. record { comes = put_comes first w r n stays.comes; kept = stays.kept })
+      (λ w v i answer stays less h. copied_by tells w v (log_range_at + 128 * i) (scratch_at + 128 * i) 128 (Inside LogRange (128 * i))
+      (Inside Scratch (128 * i)) answer (range_location w i stays.comes less) (scratch_location w i stays.comes less) h)
       (λ w i stays less. record {
         comes = record {
           range = stays.comes.range;
@@ -283,7 +292,8 @@ module _ (tells : Type 0) (first : MachineState) (count : ℕ) (room : HoldsPiec
   unfolding space_out
   piece_fetched i w less is = record {
     comes = (space_out.copied_fits w i (record { comes = is.comes; kept = is.kept }) less).comes;
-    there = piece_behind i w.memory.scratch first.memory.range (part w.memory.range (128 * i) 128) (piece_long count i w.memory.range (range_room w is.comes) less) (fits_scratch w i is.comes less) is.there
+    there = piece_behind i w.memory.scratch first.memory.range (part w.memory.range (128 * i) 128) (piece_long count i w.memory.range (range_room w is.comes)
+        less) (fits_scratch w i is.comes less) is.there
         (ap (λ (xs : List ℕ). part xs (128 * i) 128) is.kept);
     kept = is.kept;
   }
@@ -295,7 +305,9 @@ module _ (tells : Type 0) (first : MachineState) (count : ℕ) (room : HoldsPiec
   rounds_fetched : (i : ℕ) → i ≤ count → CameOut (128 * i) (after_rounds space_out i first)
   unfolding space_out
   rounds_fetched zero less =
-      put_fetched 0 _ Offset 0 (omega arith) (put_fetched 0 _ Length 128 (omega arith) (put_fetched 0 _ Target scratch_at (omega arith) (put_fetched 0 first Source log_range_at (omega arith) none_fetched)))
+      put_fetched 0 _ Offset 0 (omega arith)
+      (put_fetched 0 _ Length 128 (omega arith) (put_fetched 0 _ Target scratch_at (omega arith) (put_fetched 0 first Source log_range_at (omega arith)
+      none_fetched)))
   rounds_fetched (suc i) less =
       put_fetched (128 * suc i) _ Offset (128 * suc i) (omega (arith, room.few)) (piece_fetched i (after_rounds space_out i first) (omega arith) (rounds_fetched i (omega arith)))
 

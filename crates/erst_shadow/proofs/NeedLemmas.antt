@@ -51,7 +51,8 @@ hardware_ended = error_ended Hardware (λ short. short)
 -- What was paid
 
 -- the machine's own programs had all steps but those of the two moves
-pub own_paid : (pieces budget : ℕ) (result : Result (Unit {0}) ClientError) (left own_budget own_left : ℕ) → PaysMoves pieces budget result left own_budget own_left → budget ≤ own_budget + 2 * move_steps pieces
+pub own_paid : (pieces budget : ℕ) (result : Result (Unit {0}) ClientError) (left own_budget own_left : ℕ) → PaysMoves pieces budget result left own_budget
+    own_left → budget ≤ own_budget + 2 * move_steps pieces
 own_paid pieces budget result left own_budget own_left paid = elim paid as (λ result left own_budget own_left paid. budget ≤ own_budget + 2 * move_steps pieces) [
   | PaysBoth result left own_budget same ↦ omega arith
   | PaysPart error left own_budget own_left short less more ↦ more
@@ -66,7 +67,8 @@ both_paid pieces budget result left own_budget own_left ended paid =
     ]) ended
 
 -- so a command that was not cut short took so many steps more
-paid_more : (pieces budget : ℕ) (result : Result (Unit {0}) ClientError) (left own_budget own_left steps : ℕ) → Ended result → PaysMoves pieces budget result left own_budget own_left → own_left + steps ≡ own_budget
+paid_more : (pieces budget : ℕ) (result : Result (Unit {0}) ClientError) (left own_budget own_left steps : ℕ) → Ended result →
+    PaysMoves pieces budget result left own_budget own_left → own_left + steps ≡ own_budget
     → left + (16 * pieces + 12 + steps) ≡ budget
 paid_more pieces budget result left own_budget own_left steps ended paid spent =
     let both = both_paid pieces budget result left own_budget own_left ended paid in
@@ -117,7 +119,8 @@ own_need first last id command requests budget result left needs change = elim c
   | IsStopped pauses leaves few short ↦ λ goes. absurd (goes refl)
 ]
 
-own_enough : (first last : MachineState) (id : ℕ) (command : Command) (requests : List Request) (budget : ℕ) (result : Result (Unit {0}) ClientError) (left : ℕ) → Needs requests → 6 + 2 * changes_in command first ≤ budget
+own_enough : (first last : MachineState) (id : ℕ) (command : Command) (requests : List Request) (budget : ℕ) (result : Result (Unit {0}) ClientError) (left : ℕ)
+    → Needs requests → 6 + 2 * changes_in command first ≤ budget
     → ChangeCommand first last id command requests budget result left → Ended result
 own_enough first last id command requests budget result left needs enough change = elim change as (λ result left change. Ended result) [
   | IsTaken pauses left taken now made spent ↦ ok_ended
@@ -151,7 +154,8 @@ module _ (pieces : ℕ) (first last : MachineState) (id : ℕ) (command : Comman
 
 -- A dummy write
 
-own_dummy_need : (first last : MachineState) (budget : ℕ) (result : Result (Unit {0}) ClientError) (left : ℕ) → DummyCommand first last dummy_requests budget result left → (result ≡ Err (Stopped Budget) → ⊥)
+own_dummy_need : (first last : MachineState) (budget : ℕ) (result : Result (Unit {0}) ClientError) (left : ℕ) → DummyCommand first last dummy_requests budget
+    result left → (result ≡ Err (Stopped Budget) → ⊥)
     → Ended result × (left + 8 ≡ budget)
 own_dummy_need first last budget result left dummy = elim dummy as (λ result left dummy. (result ≡ Err (Stopped Budget) → ⊥) → Ended result × (left + 8 ≡ budget)) [
   | IsPlayed left leaves spent ↦ λ goes. (ok_ended, omega (arith, spent, needs-dummy))
@@ -185,7 +189,8 @@ read_made_ended first last id result made = elim made as (λ result made. Ended 
   | read_failed leaves rose range cursor ↦ hardware_ended
 ]
 
-own_read_need : (first last : MachineState) (id budget : ℕ) (result : Result (Unit {0}) ClientError) (left : ℕ) → ReadCommand first last id budget result left → (result ≡ Err (Stopped Budget) → ⊥) → Ended result × (left + 10 ≡ budget)
+own_read_need : (first last : MachineState) (id budget : ℕ) (result : Result (Unit {0}) ClientError) (left : ℕ) → ReadCommand first last id budget result left →
+    (result ≡ Err (Stopped Budget) → ⊥) → Ended result × (left + 10 ≡ budget)
 own_read_need first last id budget result left read = elim read as (λ result left read. (result ≡ Err (Stopped Budget) → ⊥) → Ended result × (left + 10 ≡ budget)) [
   | Answers result left made spent ↦ λ goes. (read_made_ended first last id result made, omega (arith, spent, needs-read id))
   | StopsBehind result made reached short ↦ λ goes. absurd (goes refl)

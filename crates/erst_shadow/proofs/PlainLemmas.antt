@@ -1,5 +1,6 @@
 -- Plain memory has what a move needs.
-use Rattle.std.proofs.Common.{◌≡◌, ◌∙◌, ℕ, zero, suc, ◌+◌, ◌-◌, ◌*◌, ◌^◌, ◌<◌, ◌≤◌, inl, inr, Bool, cond, eqb, List, [], ◌++◌, length, Some, Option, Result, Ok, Err, refl, sym, ap, subst, arith, le-leb}
+use Rattle.std.proofs.Common.{◌≡◌, ◌∙◌, ℕ, zero, suc, ◌+◌, ◌-◌, ◌*◌, ◌^◌, ◌<◌, ◌≤◌, inl, inr, Bool, cond, eqb, List, [], ◌++◌, length, Some, Option, Result, Ok}
+use Rattle.std.proofs.Common.{Err, refl, sym, ap, subst, arith, le-leb}
 use Rattle.std.specs.Prelude.{slice_get, unwrap_or}
 use Rattle.std.proofs.lemmas.Bool.{ne_eqb}
 use Rattle.std.proofs.lemmas.Option.{none-some}
@@ -37,7 +38,8 @@ number-put bytes at n fits small =
     let long = length-spelled 8 n in
     ap (λ (k : ℕ). little (part (put_at bytes at (spelled 8 n)) at k)) (sym long) ∙ ap little (part-put_at bytes at (spelled 8 n) (omega (arith, long, fits))) ∙ little-spelled 8 n small
 
-pub number-beside : (bytes others : List ℕ) (at place : ℕ) → at + length others ≤ length bytes → ShareNone place 8 at (length others) → number_at (put_at bytes at others) place 8 ≡ number_at bytes place 8
+pub number-beside : (bytes others : List ℕ) (at place : ℕ) → at + length others ≤ length bytes → ShareNone place 8 at (length others) →
+    number_at (put_at bytes at others) place 8 ≡ number_at bytes place 8
 unfolding number_at
 number-beside bytes others at place fits apart = ap little (part-beside bytes others at place 8 fits apart)
 
@@ -49,10 +51,12 @@ not_none n found some = ap (λ (b : Bool). cond {A = Result ℕ ℕ} b (Ok 0) fo
 within_fits : (index room place n : ℕ) → n ≤ room → within (Some (index, room)) place n ≡ Ok index
 within_fits index room place n fits = ap (λ (b : Bool). cond {A = Result ℕ ℕ} b (Ok index) (Err (place + room))) (le-leb n room fits)
 
-located_at : (windows : List Window) (place index room k n : ℕ) → WindowsApart windows → location windows 0 (Memory place) ≡ Some (index, room) → 0 < n → k + n ≤ room → located windows (Memory (place + k)) n ≡ Ok (index + k)
+located_at : (windows : List Window) (place index room k n : ℕ) → WindowsApart windows → location windows 0 (Memory place) ≡ Some (index, room) → 0 < n →
+    k + n ≤ room → located windows (Memory (place + k)) n ≡ Ok (index + k)
 located_at windows place index room k n apart is some fits =
     let there : location windows 0 (Memory (place + k)) ≡ Some (index + k, room - k) = location_further windows 0 (Memory place) index room k apart is (omega arith) in
-    ap refused (not_none n (within (location windows 0 (Memory (place + k))) (place + k) n) some ∙ ap (λ (o : Option (ℕ × ℕ)). within o (place + k) n) there ∙ within_fits (index + k) (room - k) (place + k) n (omega arith))
+    ap refused (not_none n (within (location windows 0 (Memory (place + k))) (place + k) n) some ∙ ap (λ (o : Option (ℕ × ℕ)). within o (place + k) n) there
+    ∙ within_fits (index + k) (room - k) (place + k) n (omega arith))
 
 -- how far a register stands from the first
 abbrev pub place_in : MoveRegister → ℕ
@@ -212,7 +216,8 @@ module _ (first : RamState) (from target count source sink registers : ℕ)
       let long = piece_within w i fits less in
       let others = part w.bytes (source + 128 * i) 128 in
       let next : 128 * i + 128 ≡ 128 * suc i = omega arith in
-      let front : part (put_at w.bytes (sink + 128 * i) others) sink (128 * i) ≡ part first.bytes source (128 * i) = part-beside w.bytes others (sink + 128 * i) sink (128 * i) long (inl (omega arith)) ∙ is.copied in
+      let front : part (put_at w.bytes (sink + 128 * i) others) sink (128 * i) ≡ part first.bytes source (128 * i) = part-beside w.bytes others (sink + 128 * i)
+      sink (128 * i) long (inl (omega arith)) ∙ is.copied in
       let back : part (put_at w.bytes (sink + 128 * i) others) (sink + 128 * i) 128 ≡ part first.bytes (source + 128 * i) 128 =
       ap (λ (k : ℕ). part (put_at w.bytes (sink + 128 * i) others) (sink + 128 * i) k) (sym size) ∙ part-put_at w.bytes (sink + 128 * i) others long
       ∙ is.others (source + 128 * i) 128 (of_source room.apart) (of_registers room.source_apart) in
@@ -260,7 +265,8 @@ module _ (first : RamState) (from target count source sink registers : ℕ)
       left_is : left ≡ before
       w_is : w ≡ after_rounds ram_space count first
 
-    ends : (before left : ℕ) (c : Configuration) (w : RamState) → WalkFrom Allows (move_then action from target count []) given (standing 13 (128 * count) 128 from target) before (after_rounds ram_space count first) left c w → Ends before left c w
+    ends : (before left : ℕ) (c : Configuration) (w : RamState) → WalkFrom Allows (move_then action from target count []) given
+        (standing 13 (128 * count) 128 from target) before (after_rounds ram_space count first) left c w → Ends before left c w
     unfolding move_entries
     ends before left c w Begun = record { c_is = refl; left_is = refl; w_is = refl }
     ends before left c w (Then l b mid entry d more after new walk here step sum) =
@@ -290,7 +296,8 @@ module _ (first : RamState) (from target count source sink registers : ℕ)
     pub move_copies : (answer : Result ℕ RunStop) (left : ℕ) (last : RamState) → Run Allows (move_then action from target count []) given budget first answer left last
         → CopiesOrStops (as_run answer left last) places
     move_copies answer left last run =
-        elim (moves_first Allows Fits from target count ram_space room.below action [] given budget first (refl, refl, refl) answer left last run) as (λ answer left last ran. CopiesOrStops (as_run answer left last) places) [
+        elim (moves_first Allows Fits from target count ram_space room.below action [] given budget first (refl, refl, refl) answer left last run) as
+        (λ answer left last ran. CopiesOrStops (as_run answer left last) places) [
           | StopsWithin last short fits ↦ RunsShort refl refl short
           | MovesOn before answer left last spent behind ↦ elim behind as (λ answer left last behind. CopiesOrStops (as_run answer left last) places) [
             | Finishes left c last walk over ↦

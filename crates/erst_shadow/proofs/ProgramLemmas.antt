@@ -6,7 +6,8 @@ use Rattle.std.proofs.lemmas.Option.{none-some, same_Some}
 use Rattle.apei_tables.specs.declared.registers.Register.{Register}
 use Rattle.apei_tables.specs.Check.{checked}
 use Rattle.erst_entries.specs.declared.actions.Action.{Action}
-use Rattle.erst_entries.specs.declared.actions.Action.TheVariants.{ExecuteOperation, GetCommandStatus, GetRecordIdentifier, GetRecordCount, GetErrorLogAddressRange, GetErrorLogAddressRangeLength, GetErrorLogAddressRangeAttributes}
+use Rattle.erst_entries.specs.declared.actions.Action.TheVariants.{ExecuteOperation, GetCommandStatus, GetRecordIdentifier, GetRecordCount}
+use Rattle.erst_entries.specs.declared.actions.Action.TheVariants.{GetErrorLogAddressRange, GetErrorLogAddressRangeLength, GetErrorLogAddressRangeAttributes}
 use Rattle.erst_entries.specs.declared.entries.Entry.{Entry}
 use Rattle.erst_entries.specs.declared.instructions.Instruction.TheVariants.{ReadRegister, WriteRegisterValue}
 use Rattle.erst_entries.specs.Actions.{code_of}
@@ -38,7 +39,8 @@ use Rattle.erst_shadow.proofs.Serving.{after_rounds}
 
 -- The device's registers refuse nothing
 
-act_goes : (tells : Type 0) (program : Listed) (given : ℕ) (action : Action) (entry : Entry) (c : Configuration) (paid : ℕ) (w : MachineState) (stop : RunStop) (left : ℕ) (v : MachineState) → act action ≡ entry
+act_goes : (tells : Type 0) (program : Listed) (given : ℕ) (action : Action) (entry : Entry) (c : Configuration) (paid : ℕ) (w : MachineState) (stop : RunStop)
+    (left : ℕ) (v : MachineState) → act action ≡ entry
     → Halt (Allows tells) (task_of program given entry c) paid w stop left v → ⊥
 act_goes tells program given action entry c paid w stop left v is halt =
     let why = halt_by (Allows tells) (task_of program given (act action) c) WriteRegisterValue refl (λ used. (action_at, refl)) paid w stop left v
@@ -48,7 +50,8 @@ act_goes tells program given action entry c paid w stop left v is halt =
     (subst (λ (r : Register). Store (Allows tells) r (act action) (code_of action) w (Err why.1) v) register why.3) refl in
     no_fault tt why.1 wrote.0
 
-answer_goes : (tells : Type 0) (program : Listed) (given : ℕ) (action : Action) (mask : ℕ) (entry : Entry) (c : Configuration) (paid : ℕ) (w : MachineState) (stop : RunStop) (left : ℕ) (v : MachineState) → answer action mask ≡ entry
+answer_goes : (tells : Type 0) (program : Listed) (given : ℕ) (action : Action) (mask : ℕ) (entry : Entry) (c : Configuration) (paid : ℕ) (w : MachineState)
+    (stop : RunStop) (left : ℕ) (v : MachineState) → answer action mask ≡ entry
     → Halt (Allows tells) (task_of program given entry c) paid w stop left v → ⊥
 answer_goes tells program given action mask entry c paid w stop left v is halt =
     let why = halt_by (Allows tells) (task_of program given (answer action mask) c) ReadRegister refl (λ used. (value_at, refl)) paid w stop left v
@@ -78,15 +81,18 @@ execute_is_its_own k entry here = subst (λ (e : Entry). IsOfItsOwn e) (execute_
 pub moves_then_executes : (tells : Type 0) (pieces : ℕ) (first : MachineState) → HoldsPieces first pieces → (given budget : ℕ) (result : Result ℕ RunStop) (left : ℕ) (last : MachineState)
     → Performs (Allows tells) (shadow_entries pieces) ExecuteOperation given budget first result left last → MovesThenExecutes tells pieces given budget first result left last
 moves_then_executes tells pieces first room given budget result left last run =
-    let ran = moves_first (Allows tells) (KeepsOthers first) scratch_at log_range_at pieces (space_in tells first pieces room) (below_in tells first pieces room) ExecuteOperation execute_tail given budget first
+    let ran = moves_first (Allows tells) (KeepsOthers first) scratch_at log_range_at pieces (space_in tells first pieces room)
+    (below_in tells first pieces room) ExecuteOperation execute_tail given budget first
     (first_comes tells first pieces room) result left last (subst (λ (p : Listed). Run (Allows tells) p given budget first result left last) (execute_programs pieces).0 run) in
     elim ran as (λ result left last ran. MovesThenExecutes tells pieces given budget first result left last) [
       | StopsWithin last short comes ↦ StopsMovingIn last short comes
       | MovesOn before result left last spent behind ↦
           let mid = after_rounds (space_in tells first pieces room) pieces first in
           let own = runs_behind (Allows tells) scratch_at log_range_at pieces ExecuteOperation execute_tail given before mid execute_is_its_own (omega arith)
-          (λ k entry c paid w stop left v here halt. act_goes tells (move_then ExecuteOperation scratch_at log_range_at pieces execute_tail) given ExecuteOperation entry c paid w stop left v (execute_entry k entry here) halt) result left last behind in
-          ExecutesMoved before mid result left last spent (moved_in tells first pieces room) (subst (λ (p : Listed). Run (Allows tells) p given before mid result left last) (sym (execute_programs pieces).1) own)
+          (λ k entry c paid w stop left v here halt. act_goes tells (move_then ExecuteOperation scratch_at log_range_at pieces execute_tail) given
+          ExecuteOperation entry c paid w stop left v (execute_entry k entry here) halt) result left last behind in
+          ExecutesMoved before mid result left last spent (moved_in tells first pieces room)
+          (subst (λ (p : Listed). Run (Allows tells) p given before mid result left last) (sym (execute_programs pieces).1) own)
     ]
 
 -- GET_COMMAND_STATUS
@@ -104,7 +110,8 @@ status_is_its_own zero entry here = subst (λ (e : Entry). IsOfItsOwn e) (same_S
 status_is_its_own (suc zero) entry here = subst (λ (e : Entry). IsOfItsOwn e) (same_Some _ _ here) (TakesRegister refl)
 status_is_its_own (suc (suc k)) entry here = absurd (none-some entry here)
 
-status_never : (tells : Type 0) (program : Listed) (given : ℕ) (k : ℕ) (entry : Entry) (c : Configuration) (paid : ℕ) (w : MachineState) (stop : RunStop) (left : ℕ) (v : MachineState) → slice_get status_tail k ≡ Some entry
+status_never : (tells : Type 0) (program : Listed) (given : ℕ) (k : ℕ) (entry : Entry) (c : Configuration) (paid : ℕ) (w : MachineState) (stop : RunStop)
+    (left : ℕ) (v : MachineState) → slice_get status_tail k ≡ Some entry
     → Halt (Allows tells) (task_of program given entry c) paid w stop left v → ⊥
 status_never tells program given zero entry c paid w stop left v here halt = act_goes tells program given GetCommandStatus entry c paid w stop left v (same_Some _ _ here) halt
 status_never tells program given (suc zero) entry c paid w stop left v here halt = answer_goes tells program given GetCommandStatus 0xFF entry c paid w stop left v (same_Some _ _ here) halt
@@ -113,15 +120,19 @@ status_never tells program given (suc (suc k)) entry c paid w stop left v here h
 pub moves_then_tells : (tells : Type 0) (pieces : ℕ) (first : MachineState) → HoldsPieces first pieces → (given budget : ℕ) (result : Result ℕ RunStop) (left : ℕ) (last : MachineState)
     → Performs (Allows tells) (shadow_entries pieces) GetCommandStatus given budget first result left last → MovesThenTells tells pieces given budget first result left last
 moves_then_tells tells pieces first room given budget result left last run =
-    let ran = moves_first (Allows tells) (KeepsRange first) log_range_at scratch_at pieces (space_out tells first pieces room) (below_out tells first pieces room) GetCommandStatus status_tail given budget first
-    (record { comes = first_comes tells first pieces room; kept = refl }) result left last (subst (λ (p : Listed). Run (Allows tells) p given budget first result left last) (status_programs pieces).0 run) in
+    let ran = moves_first (Allows tells) (KeepsRange first) log_range_at scratch_at pieces (space_out tells first pieces room)
+    (below_out tells first pieces room) GetCommandStatus status_tail given budget first
+    (record { comes = first_comes tells first pieces room; kept = refl }) result left last
+    (subst (λ (p : Listed). Run (Allows tells) p given budget first result left last) (status_programs pieces).0 run) in
     elim ran as (λ result left last ran. MovesThenTells tells pieces given budget first result left last) [
       | StopsWithin last short stays ↦ StopsMovingOut last short stays.comes stays.kept
       | MovesOn before result left last spent behind ↦
           let mid = after_rounds (space_out tells first pieces room) pieces first in
           let own = runs_behind (Allows tells) log_range_at scratch_at pieces GetCommandStatus status_tail given before mid status_is_its_own (omega arith)
-          (λ k entry c paid w stop left v here halt. status_never tells (move_then GetCommandStatus log_range_at scratch_at pieces status_tail) given k entry c paid w stop left v here halt) result left last behind in
-          TellsMoved before mid result left last spent (moved_out tells first pieces room) (subst (λ (p : Listed). Run (Allows tells) p given before mid result left last) (sym (status_programs pieces).1) own)
+          (λ k entry c paid w stop left v here halt. status_never tells (move_then GetCommandStatus log_range_at scratch_at pieces status_tail) given k entry c
+          paid w stop left v here halt) result left last behind in
+          TellsMoved before mid result left last spent (moved_out tells first pieces room)
+          (subst (λ (p : Listed). Run (Allows tells) p given before mid result left last) (sym (status_programs pieces).1) own)
     ]
 
 -- The others
@@ -148,12 +159,14 @@ pub performs_own : (tells : Type 0) (pieces : ℕ) (action : Action) → IsCommo
     → Performs (Allows tells) (shadow_entries pieces) action given budget first result left last → Performs (Allows tells) own_entries action given budget first result left last
 performs_own tells pieces action is given budget first result left last run = subst (λ (p : Listed). Run (Allows tells) p given budget first result left last) (common_program pieces action is) run
 
-pub own_count : (tells : Type 0) (pieces budget : ℕ) (first : MachineState) (result : Result ℕ ClientError) (left : ℕ) (last : MachineState) → Counts (Allows tells) (shadow_entries pieces) budget first result left last
+pub own_count : (tells : Type 0) (pieces budget : ℕ) (first : MachineState) (result : Result ℕ ClientError) (left : ℕ) (last : MachineState) →
+    Counts (Allows tells) (shadow_entries pieces) budget first result left last
     → Counts (Allows tells) own_entries budget first result left last
 own_count tells pieces budget first result left last counts =
     record { answer = counts.answer; asks = performs_own tells pieces GetRecordCount tt 0 budget first counts.answer left last counts.asks; result_is = counts.result_is }
 
-pub own_next : (tells : Type 0) (pieces budget : ℕ) (first : MachineState) (result : Result (Option ℕ) ClientError) (left : ℕ) (last : MachineState) → Names (Allows tells) (shadow_entries pieces) budget first result left last
+pub own_next : (tells : Type 0) (pieces budget : ℕ) (first : MachineState) (result : Result (Option ℕ) ClientError) (left : ℕ) (last : MachineState) →
+    Names (Allows tells) (shadow_entries pieces) budget first result left last
     → Names (Allows tells) own_entries budget first result left last
 own_next tells pieces budget first result left last names =
     record { answer = names.answer; asks = performs_own tells pieces GetRecordIdentifier tt 0 budget first names.answer left last names.asks; result_is = names.result_is }

@@ -45,7 +45,8 @@ quiet_changes (Some ExecuteOperation) old range other quiet = absurd quiet
 quiet_changes (Some CheckBusyStatus) old range other quiet = absurd quiet
 quiet_changes action old range other quiet = refl
 
-quiet_effect : (tells : Type 0) (old : DeviceState) (range other : List ℕ) (action : Option Action) (new : DeviceState) → IsQuiet action → Effect tells old range action new → Effect tells old other action new
+quiet_effect : (tells : Type 0) (old : DeviceState) (range other : List ℕ) (action : Option Action) (new : DeviceState) → IsQuiet action →
+    Effect tells old range action new → Effect tells old other action new
 quiet_effect tells old range other action new quiet effect = record {
   crash = effect.crash;
   made = effect.made;
@@ -86,7 +87,8 @@ given_memory true n w = refl
 given_memory false n w = refl
 
 -- a run of such an action, in other memories and with as many steps more or fewer
-pub runs_beside : (tells : Type 0) (action : Action) (given budget : ℕ) (first : MachineState) (result : Result ℕ RunStop) (left : ℕ) (last : MachineState) (range scratch : List ℕ) → IsQuiet (action_of (code_of action))
+pub runs_beside : (tells : Type 0) (action : Action) (given budget : ℕ) (first : MachineState) (result : Result ℕ RunStop) (left : ℕ) (last : MachineState)
+    (range scratch : List ℕ) → IsQuiet (action_of (code_of action))
     → OwnRun tells action given budget first result left last
     → (last.memory ≡ first.memory) × OwnRun tells action given budget (holding range scratch first) result left (holding range scratch last)
 runs_beside tells action given budget first result left last range scratch quiet run =
@@ -94,12 +96,14 @@ runs_beside tells action given budget first result left last range scratch quiet
       | IsMade left last acted spent ↦
           let on = acts_beside tells (given_to action given first) (code_of action) last range scratch quiet acted in (
             on.0 ∙ given_memory (takes_value action) (given % 2 ^ 64) first,
-            IsMade left (holding range scratch last) (subst (λ (w : MachineState). ActsOn tells w (code_of action) (holding range scratch last)) (sym (given_beside (takes_value action) (given % 2 ^ 64) first range scratch)) on.1) spent,
+            IsMade left (holding range scratch last) (subst (λ (w : MachineState). ActsOn tells w (code_of action) (holding range scratch last))
+                (sym (given_beside (takes_value action) (given % 2 ^ 64) first range scratch)) on.1) spent,
           )
       | StopsAtOnce none ↦ (refl, StopsAtOnce none)
       | StopsBefore one takes ↦ (
         given_memory (takes_value action) (given % 2 ^ 64) first,
-        subst (λ (w : MachineState). OwnRun tells action given budget (holding range scratch first) (Err Budget) 0 w) (given_beside (takes_value action) (given % 2 ^ 64) first range scratch) (StopsBefore one takes),
+        subst (λ (w : MachineState). OwnRun tells action given budget (holding range scratch first) (Err Budget) 0 w)
+            (given_beside (takes_value action) (given % 2 ^ 64) first range scratch) (StopsBefore one takes),
       )
       | StopsBehind last one shows acted ↦
           let on = acts_beside tells first (code_of action) last range scratch quiet acted in

@@ -13,7 +13,8 @@ use Rattle.erst_interp.specs.Runs.{Walk, Begun as WalkBegun, Then as WalkThen, R
 use Rattle.erst_shadow.specs.MoveEntries.{move_entries}
 use Rattle.erst_shadow.specs.MoveSpaces.{AreAddressable}
 use Rattle.erst_shadow.specs.MoveRuns.{move_then, move_steps}
-use Rattle.erst_shadow.proofs.StageLemmas.{Stage, First, Second, Third, Fourth, Fifth, Sixth, Seventh, Head, Copied, Loaded, Added, Kept, Again, Done, cost, IsStage, stage_at, stage_in, stage_fits, stage_leads}
+use Rattle.erst_shadow.proofs.StageLemmas.{Stage, First, Second, Third, Fourth, Fifth, Sixth, Seventh, Head, Copied, Loaded, Added, Kept, Again, Done, cost}
+use Rattle.erst_shadow.proofs.StageLemmas.{IsStage, stage_at, stage_in, stage_fits, stage_leads}
 use Rattle.erst_shadow.proofs.HaltLemmas.{stage_stops}
 use Rattle.erst_shadow.proofs.Terms.{standing, WalkFrom, MovesFirst, Begun, Then, Finishes, Exhausted, Halts, MovesOn, StopsWithin}
 use Rattle.erst_shadow.proofs.Serving.{ServesMove, after_rounds}
@@ -60,7 +61,8 @@ module _ {W : Type 0} (allows : W → Call → W → Type 0) (fits : W → Type 
     Beyond : (before left : ℕ) (c : Configuration) (w : W) → before + move_steps count ≡ budget
         → WalkFrom allows (move_then action from target count behind) given (standing 13 (128 * count) 128 from target) before (after_rounds space count first) left c w → Split left c w
 
-  arrives : (to : Stage) (left : ℕ) (c : Configuration) (w : W) → IsStage count to → c ≡ stage_at from target count to → w ≡ stage_in allows fits from target count space below first to → left + cost count to ≡ budget
+  arrives : (to : Stage) (left : ℕ) (c : Configuration) (w : W) → IsStage count to → c ≡ stage_at from target count to → w ≡ stage_in allows fits from target
+      count space below first to → left + cost count to ≡ budget
       → (to ≡ Done) ⊎ (to ≡ Done → ⊥) → Split left c w
   arrives to left c w is there new spent (inr not) = Before to left c w is not there new spent
   arrives to left c w is there new spent (inl done) =
@@ -70,10 +72,12 @@ module _ {W : Type 0} (allows : W → Call → W → Type 0) (fits : W → Type 
       (subst (λ (v : W). Split left (standing 13 (128 * count) 128 from target) v) (sym w_is)
       (Beyond left left (standing 13 (128 * count) 128 from target) (after_rounds space count first) (sym (ap (λ (s : Stage). left + cost count s) done) ∙ spent) Begun))
 
-  one_more : (left : ℕ) (c : Configuration) (mid : W) (entry : Entry) (d : Configuration) (more after : ℕ) (new : W) → Split left c mid → slice_get (move_then action from target count behind).entries c.place ≡ Some entry
+  one_more : (left : ℕ) (c : Configuration) (mid : W) (entry : Entry) (d : Configuration) (more after : ℕ) (new : W) → Split left c mid →
+      slice_get (move_then action from target count behind).entries c.place ≡ Some entry
       → Step allows (task_of (move_then action from target count behind) given entry c) mid d more new → after + more + 1 ≡ left → Split after d new
   one_more left c mid entry d more after new (Before stage l b w is not there at_w spent) here step sum =
-      let moved = subst (λ (x : Configuration). Step allows (task_of (move_then action from target count behind) given entry x) (stage_in allows fits from target count space below first stage) d more new) there
+      let moved = subst (λ (x : Configuration). Step allows (task_of (move_then action from target count behind) given entry x)
+      (stage_in allows fits from target count space below first stage) d more new) there
       (subst (λ (v : W). Step allows (task_of (move_then action from target count behind) given entry c) v d more new) at_w step) in
       let goes = stage_leads allows fits from target count space below action behind given first fit stage is not entry
       (subst (λ (x : Configuration). slice_get (move_then action from target count behind).entries x.place ≡ Some entry) there here) d more new moved in
@@ -88,25 +92,30 @@ module _ {W : Type 0} (allows : W → Call → W → Type 0) (fits : W → Type 
   unfolding move_entries
   long = omega arith
 
-  finished : (left : ℕ) (c : Configuration) (last : W) → Split left c last → length (move_then action from target count behind).entries ≤ c.place → MovesFirst space action behind given budget first (Ok (unwrap_or c.result given)) left last
+  finished : (left : ℕ) (c : Configuration) (last : W) → Split left c last → length (move_then action from target count behind).entries ≤ c.place →
+      MovesFirst space action behind given budget first (Ok (unwrap_or c.result given)) left last
   finished left c last (Before stage l b w is not there at_w spent) ends =
       let short = (within from target count stage is below.some not).0 in
       let place = ap (λ (x : Configuration). x.place) there in
       absurd (omega (arith, short, place, ends, long))
   finished left c last (Beyond before l b w spent walk) ends = MovesOn before _ left last spent (Finishes left c last walk ends)
 
-  exhausted : (left : ℕ) (c : Configuration) (last : W) → left ≡ 0 → Split left c last → c.place < length (move_then action from target count behind).entries → MovesFirst space action behind given budget first (Err Budget) 0 last
+  exhausted : (left : ℕ) (c : Configuration) (last : W) → left ≡ 0 → Split left c last → c.place < length (move_then action from target count behind).entries →
+      MovesFirst space action behind given budget first (Err Budget) 0 last
   exhausted left c last none (Before stage l b w is not there at_w spent) more =
       let short = (within from target count stage is below.some not).1 in
       StopsWithin last (omega (arith, short, spent, none)) (subst fits (sym at_w) (stage_fits allows fits from target count space below first fit stage is))
   exhausted left c last none (Beyond before l b w spent walk) more =
-      MovesOn before _ 0 last spent (Exhausted c last (subst (λ (n : ℕ). WalkFrom allows (move_then action from target count behind) given (standing 13 (128 * count) 128 from target) before (after_rounds space count first) n c last) none walk) more)
+      MovesOn before _ 0 last spent (Exhausted c last
+      (subst (λ (n : ℕ). WalkFrom allows (move_then action from target count behind) given (standing 13 (128 * count) 128 from target) before
+      (after_rounds space count first) n c last) none walk) more)
 
   halted : (paid left_before : ℕ) (c : Configuration) (mid : W) (entry : Entry) (stop : RunStop) (left : ℕ) (last : W) → left_before ≡ paid + 1 → Split left_before c mid
       → slice_get (move_then action from target count behind).entries c.place ≡ Some entry → Halt allows (task_of (move_then action from target count behind) given entry c) paid mid stop left last
       → MovesFirst space action behind given budget first (Err stop) left last
   halted paid left_before c mid entry stop left last paid_is (Before stage l b w is not there at_w spent) here halt =
-      let moved = subst (λ (x : Configuration). Halt allows (task_of (move_then action from target count behind) given entry x) paid (stage_in allows fits from target count space below first stage) stop left last) there
+      let moved = subst (λ (x : Configuration). Halt allows (task_of (move_then action from target count behind) given entry x) paid
+      (stage_in allows fits from target count space below first stage) stop left last) there
       (subst (λ (v : W). Halt allows (task_of (move_then action from target count behind) given entry c) paid v stop left last) at_w halt) in
       let halts = stage_stops allows fits from target count space below action behind given first fit stage is not entry
       (subst (λ (x : Configuration). slice_get (move_then action from target count behind).entries x.place ≡ Some entry) there here) paid stop left last moved in
@@ -116,9 +125,12 @@ module _ {W : Type 0} (allows : W → Call → W → Type 0) (fits : W → Type 
       (StopsWithin last (omega (arith, halts.1, out.short, spent, paid_is)) (subst fits (sym out.new_is) (stage_fits allows fits from target count space below first fit stage is))))
   halted paid left_before c mid entry stop left last paid_is (Beyond before l b w spent walk) here halt =
       MovesOn before _ left last spent
-      (Halts paid c mid entry stop left last (subst (λ (n : ℕ). WalkFrom allows (move_then action from target count behind) given (standing 13 (128 * count) 128 from target) before (after_rounds space count first) n c mid) paid_is walk) here halt)
+      (Halts paid c mid entry stop left last
+      (subst (λ (n : ℕ). WalkFrom allows (move_then action from target count behind) given (standing 13 (128 * count) 128 from target) before
+      (after_rounds space count first) n c mid) paid_is walk) here halt)
 
-  pub moves_first : (answer : Result ℕ RunStop) (left : ℕ) (last : W) → Run allows (move_then action from target count behind) given budget first answer left last → MovesFirst space action behind given budget first answer left last
+  pub moves_first : (answer : Result ℕ RunStop) (left : ℕ) (last : W) → Run allows (move_then action from target count behind) given budget first answer left
+      last → MovesFirst space action behind given budget first answer left last
   moves_first answer left last run = elim run as (λ answer left last run. MovesFirst space action behind given budget first answer left last) [
     | NoProgram none empty ↦ absurd (omega (arith, none, long))
     | RunFinishes left c last has walk ends ↦ finished left c last (splits left c last walk) ends

@@ -12,7 +12,8 @@ use Rattle.erst_client.specs.declared.errors.ClientError.{ClientError}
 use Rattle.erst_client.specs.declared.errors.ClientError.TheVariants.{Stopped, Late}
 use Rattle.erst_client.specs.declared.requests.Request.{Request}
 use Rattle.erst_client.specs.Requests.{Performs, Asks, NoneLeft, Answered, StopsLater, StopsHere}
-use Rattle.erst_client.specs.Sequences.{Pauses, Untimed, Timed, TooOften, Busy, NotYet, Again, Waits, IsIdle, IsStopped, IsLate, judged, UntilStatus, NotAsked, NotWaited, NotTold, IsTold, Sequence, write_requests, read_requests, clear_requests, dummy_requests}
+use Rattle.erst_client.specs.Sequences.{Pauses, Untimed, Timed, TooOften, Busy, NotYet, Again, Waits, IsIdle, IsStopped, IsLate, judged, UntilStatus, NotAsked}
+use Rattle.erst_client.specs.Sequences.{NotWaited, NotTold, IsTold, Sequence, write_requests, read_requests, clear_requests, dummy_requests}
 use Rattle.erst_machine.specs.Memories.{MemoryState}
 use Rattle.erst_machine.specs.MachineState.{MachineState}
 use Rattle.erst_machine.specs.Allowed.{Allows, ActsOn}
@@ -43,7 +44,8 @@ executes before = before ++ record { action = ExecuteOperation; given = 0 } ∷ 
 pub data AskedAsOwn (tells : Type 0) (pieces : ℕ) (requests : List Request) (budget : ℕ) (first : MachineState) : Result (List ℕ) RunStop → ℕ → MachineState → Type 0 where
   AsksAll : (scratch : List ℕ) (own_budget : ℕ) (result : Result (List ℕ) RunStop) (left : ℕ) (last : MachineState) → length scratch ≡ 4096 → own_budget + move_steps pieces ≡ budget
       → Asks (Allows tells) own_entries requests own_budget (holding (range_with_record pieces first) scratch first) result left last → AskedAsOwn tells pieces requests budget first result left last
-  AsksSome : (scratch : List ℕ) (own_budget own_left : ℕ) (own_last : MachineState) (stop : RunStop) (left : ℕ) (last : MachineState) → length scratch ≡ 4096 → own_budget ≤ budget → budget ≤ own_budget + move_steps pieces
+  AsksSome : (scratch : List ℕ) (own_budget own_left : ℕ) (own_last : MachineState) (stop : RunStop) (left : ℕ) (last : MachineState) → length scratch ≡ 4096 →
+      own_budget ≤ budget → budget ≤ own_budget + move_steps pieces
       → Asks (Allows tells) own_entries requests own_budget (holding (range_with_record pieces first) scratch first) (Err stop) own_left own_last → AgreesElsewhere last own_last
       → AskedAsOwn tells pieces requests budget first (Err stop) left last
 
@@ -60,23 +62,28 @@ module _ (tells : Type 0) (own : OwnProgramsRun tells) (pieces : ℕ) where
   -- EXECUTE_OPERATION alone
   asked_execute : (budget : ℕ) (first : MachineState) → HoldsPieces first pieces → (result : Result ℕ RunStop) (left : ℕ) (last : MachineState)
       → MovesThenExecutes tells pieces 0 budget first result left last → (answers : Result (List ℕ) RunStop)
-      → ((allowed : MachineState) (spare : ℕ) → Performs (Allows tells) own_entries ExecuteOperation 0 spare allowed result left last → Asks (Allows tells) own_entries (executes []) spare allowed answers left last)
+      → ((allowed : MachineState) (spare : ℕ) → Performs (Allows tells) own_entries ExecuteOperation 0 spare allowed result left last →
+      Asks (Allows tells) own_entries (executes []) spare allowed answers left last)
       → ((stop : RunStop) → result ≡ Err stop → answers ≡ Err stop) → AskedAsOwn tells pieces (executes []) budget first answers left last
   asked_execute budget first rooms result left last ran answers asks stops =
-      (elim ran as (λ result left last ran. ((allowed : MachineState) (spare : ℕ) → Performs (Allows tells) own_entries ExecuteOperation 0 spare allowed result left last → Asks (Allows tells) own_entries (executes []) spare allowed answers left last)
+      (elim ran as (λ result left last ran. ((allowed : MachineState) (spare : ℕ) → Performs (Allows tells) own_entries ExecuteOperation 0 spare allowed result
+      left last → Asks (Allows tells) own_entries (executes []) spare allowed answers left last)
       → ((stop : RunStop) → result ≡ Err stop → answers ≡ Err stop) → AskedAsOwn tells pieces (executes []) budget first answers left last) [
         | ExecutesMoved spare mid result left last spent moved run ↦ λ asks stops.
             let there : mid ≡ holding (range_with_record pieces first) mid.memory.scratch first = moved.others.elsewhere ∙ ap (λ (r : List ℕ). holding r mid.memory.scratch first) moved.moved in
-            AsksAll mid.memory.scratch spare answers left last moved.others.scratch spent (subst (λ (w : MachineState). Asks (Allows tells) own_entries (executes []) spare w answers left last) there (asks mid spare run))
+            AsksAll mid.memory.scratch spare answers left last moved.others.scratch spent
+            (subst (λ (w : MachineState). Asks (Allows tells) own_entries (executes []) spare w answers left last) there (asks mid spare run))
         | StopsMovingIn last short comes ↦ λ asks stops.
             let start = holding (range_with_record pieces first) first.memory.scratch first in
             subst (λ (a : Result (List ℕ) RunStop). AskedAsOwn tells pieces (executes []) budget first a 0 last) (sym (stops Budget refl))
             (AsksSome first.memory.scratch 0 0 start Budget 0 last rooms.scratch (omega arith) (omega (arith, short))
-            (StopsHere (record { action = ExecuteOperation; given = 0 }) [] 0 start Budget 0 start (run_of_own tells ExecuteOperation tt 0 0 start (Err Budget) 0 start (StopsAtOnce refl))) comes.elsewhere)
+            (StopsHere (record { action = ExecuteOperation; given = 0 }) [] 0 start Budget 0 start (run_of_own tells ExecuteOperation tt 0 0 start (Err Budget)
+            0 start (StopsAtOnce refl))) comes.elsewhere)
       ]) asks stops
 
   -- one request before the others
-  asked_more : (request : Request) (rest : List Request) (budget : ℕ) (first : MachineState) (answer left : ℕ) (next : MachineState) (others all : Result (List ℕ) RunStop) (after : ℕ) (last : MachineState) → IsBefore request
+  asked_more : (request : Request) (rest : List Request) (budget : ℕ) (first : MachineState) (answer left : ℕ) (next : MachineState)
+      (others all : Result (List ℕ) RunStop) (after : ℕ) (last : MachineState) → IsBefore request
       → Performs (Allows tells) (shadow_entries pieces) request.action request.given budget first (Ok answer) left next
       → ((w v : MachineState) (own_budget own_left left : ℕ) → Performs (Allows tells) own_entries request.action request.given own_budget w (Ok answer) own_left v
       → (last : MachineState) → Asks (Allows tells) own_entries (executes rest) own_left v others left last → Asks (Allows tells) own_entries (executes (request ∷ rest)) own_budget w all left last)
@@ -87,26 +94,32 @@ module _ (tells : Type 0) (own : OwnProgramsRun tells) (pieces : ℕ) where
       let same = (runs_beside tells request.action request.given budget first (Ok answer) left next first.memory.range first.memory.scratch before.2 ran).0 in
       let moved : range_with_record pieces next ≡ range_with_record pieces first = ap (λ (m : MemoryState). put_at m.range 0 (part m.scratch 0 (128 * pieces))) same in
       let steps = with_other_steps tells request.action request.given budget first (Ok answer) left next answer refl ran in
-      let again = λ (scratch : List ℕ) (spare : ℕ). run_of_own tells request.action before.1 request.given (spare + steps.0) (holding (range_with_record pieces first) scratch first) (Ok answer) spare (holding (range_with_record pieces first) scratch next)
+      let again = λ (scratch : List ℕ) (spare : ℕ). run_of_own tells request.action before.1 request.given (spare + steps.0)
+      (holding (range_with_record pieces first) scratch first) (Ok answer) spare (holding (range_with_record pieces first) scratch next)
       (runs_beside tells request.action request.given (spare + steps.0) first (Ok answer) spare next (range_with_record pieces first) scratch before.2 (steps.2 spare)).1 in
-      (elim (later same) as (λ others after last asked. ((w v : MachineState) (own_budget own_left left : ℕ) → Performs (Allows tells) own_entries request.action request.given own_budget w (Ok answer) own_left v
+      (elim (later same) as (λ others after last asked. ((w v : MachineState) (own_budget own_left left : ℕ) → Performs (Allows tells) own_entries
+      request.action request.given own_budget w (Ok answer) own_left v
       → (last : MachineState) → Asks (Allows tells) own_entries (executes rest) own_left v others left last → Asks (Allows tells) own_entries (executes (request ∷ rest)) own_budget w all left last)
       → ((stop : RunStop) → others ≡ Err stop → all ≡ Err stop) → AskedAsOwn tells pieces (executes (request ∷ rest)) budget first all after last) [
         | AsksAll scratch own_budget others after last long spent asks ↦ λ joins stops.
             AsksAll scratch (own_budget + steps.0) all after last long (let e = steps.1 in omega (arith, spent, e))
-            (joins (holding (range_with_record pieces first) scratch first) (holding (range_with_record pieces first) scratch next) (own_budget + steps.0) own_budget after (again scratch own_budget) last
+            (joins (holding (range_with_record pieces first) scratch first) (holding (range_with_record pieces first) scratch next) (own_budget + steps.0)
+            own_budget after (again scratch own_budget) last
             (subst (λ (r : List ℕ). Asks (Allows tells) own_entries (executes rest) own_budget (holding r scratch next) others after last) moved asks))
         | AsksSome scratch own_budget own_left own_last stop after last long less more asks beside ↦ λ joins stops.
             subst (λ (a : Result (List ℕ) RunStop). AskedAsOwn tells pieces (executes (request ∷ rest)) budget first a after last) (sym (stops stop refl))
             (AsksSome scratch (own_budget + steps.0) own_left own_last stop after last long (let e = steps.1 in omega (arith, less, e)) (let e = steps.1 in omega (arith, more, e))
-            (subst (λ (a : Result (List ℕ) RunStop). Asks (Allows tells) own_entries (executes (request ∷ rest)) (own_budget + steps.0) (holding (range_with_record pieces first) scratch first) a own_left own_last) (stops stop refl)
-            (joins (holding (range_with_record pieces first) scratch first) (holding (range_with_record pieces first) scratch next) (own_budget + steps.0) own_budget own_left (again scratch own_budget) own_last
+            (subst (λ (a : Result (List ℕ) RunStop). Asks (Allows tells) own_entries (executes (request ∷ rest)) (own_budget + steps.0)
+            (holding (range_with_record pieces first) scratch first) a own_left own_last) (stops stop refl)
+            (joins (holding (range_with_record pieces first) scratch first) (holding (range_with_record pieces first) scratch next) (own_budget + steps.0)
+            own_budget own_left (again scratch own_budget) own_last
             (subst (λ (r : List ℕ). Asks (Allows tells) own_entries (executes rest) own_budget (holding r scratch next) (Err stop) own_left own_last) moved asks)))
             beside)
       ]) joins stops
 
   asked_stop : (request : Request) (rest : List Request) (budget : ℕ) (first : MachineState) → HoldsPieces first pieces → (stop : RunStop) (left : ℕ) (last : MachineState) → IsBefore request
-      → Performs (Allows tells) (shadow_entries pieces) request.action request.given budget first (Err stop) left last → AskedAsOwn tells pieces (executes (request ∷ rest)) budget first (Err stop) left last
+      → Performs (Allows tells) (shadow_entries pieces) request.action request.given budget first (Err stop) left last →
+      AskedAsOwn tells pieces (executes (request ∷ rest)) budget first (Err stop) left last
   asked_stop request rest budget first rooms stop left last before run =
       let ran = own request.action request.given budget first (Err stop) left last (performs_own tells pieces request.action before.0 request.given budget first (Err stop) left last run) in
       let range = range_with_record pieces first in
@@ -132,7 +145,8 @@ module _ (tells : Type 0) (own : OwnProgramsRun tells) (pieces : ℕ) where
       (λ same. asked_as_own before are.1 asked mid (same_rooms first mid same rooms) (Ok answers) left last asks)
   asked_as_own (request ∷ before) are budget first rooms result left last (StopsLater q rest b o answer asked mid stop after l run asks) =
       asked_more request before budget first answer asked mid (Err stop) (Err stop) left last are.0 run
-      (λ w v own_budget own_left end own_run last own_asks. StopsLater request (executes before) own_budget w answer own_left v stop end last own_run own_asks) (λ other e. let same : stop ≡ other = cc in ap (λ (s : RunStop). Err s) same)
+      (λ w v own_budget own_left end own_run last own_asks. StopsLater request (executes before) own_budget w answer own_left v stop end last own_run own_asks)
+      (λ other e. let same : stop ≡ other = cc in ap (λ (s : RunStop). Err s) same)
       (λ same. asked_as_own before are.1 asked mid (same_rooms first mid same rooms) (Err stop) left last asks)
   asked_as_own (request ∷ before) are budget first rooms result left last (StopsHere q rest b o stop after l run) = asked_stop request before budget first rooms stop left last are.0 run
 
@@ -156,7 +170,8 @@ given_kept : (b : Bool) (n : ℕ) (w : MachineState) → Keeps w (if b then with
 given_kept true n w = record { range = refl; scratch = refl }
 given_kept false n w = record { range = refl; scratch = refl }
 
-run_keeps : (tells : Type 0) (action : Action) (given budget : ℕ) (first : MachineState) (result : Result ℕ RunStop) (left : ℕ) (last : MachineState) → OwnRun tells action given budget first result left last → Keeps first last
+run_keeps : (tells : Type 0) (action : Action) (given budget : ℕ) (first : MachineState) (result : Result ℕ RunStop) (left : ℕ) (last : MachineState) →
+    OwnRun tells action given budget first result left last → Keeps first last
 run_keeps tells action given budget first result left last run = elim run as (λ result left last run. Keeps first last) [
   | IsMade left last acted spent ↦ given_keeps (takes_value action) (given % 2 ^ 64) first last (acted_keeps tells (given_to action given first) (code_of action) last acted)
   | StopsAtOnce none ↦ record { range = refl; scratch = refl }
@@ -165,47 +180,59 @@ run_keeps tells action given budget first result left last run = elim run as (λ
 ]
 
 module _ (tells : Type 0) (own : OwnProgramsRun tells) where
-  asks_keep : (requests : List Request) (budget : ℕ) (first : MachineState) (result : Result (List ℕ) RunStop) (left : ℕ) (last : MachineState) → Asks (Allows tells) own_entries requests budget first result left last → Keeps first last
+  asks_keep : (requests : List Request) (budget : ℕ) (first : MachineState) (result : Result (List ℕ) RunStop) (left : ℕ) (last : MachineState) →
+      Asks (Allows tells) own_entries requests budget first result left last → Keeps first last
   asks_keep requests budget first result left last (NoneLeft b o) = record { range = refl; scratch = refl }
   asks_keep requests budget first result left last (Answered q rest b o answer asked mid answers after l run asks) =
-      keeps_then first mid last (run_keeps tells q.action q.given budget first (Ok answer) asked mid (own q.action q.given budget first (Ok answer) asked mid run)) (asks_keep rest asked mid (Ok answers) left last asks)
+      keeps_then first mid last (run_keeps tells q.action q.given budget first (Ok answer) asked mid (own q.action q.given budget first (Ok answer) asked mid
+      run)) (asks_keep rest asked mid (Ok answers) left last asks)
   asks_keep requests budget first result left last (StopsLater q rest b o answer asked mid stop after l run asks) =
-      keeps_then first mid last (run_keeps tells q.action q.given budget first (Ok answer) asked mid (own q.action q.given budget first (Ok answer) asked mid run)) (asks_keep rest asked mid (Err stop) left last asks)
+      keeps_then first mid last (run_keeps tells q.action q.given budget first (Ok answer) asked mid (own q.action q.given budget first (Ok answer) asked mid
+      run)) (asks_keep rest asked mid (Err stop) left last asks)
   asks_keep requests budget first result left last (StopsHere q rest b o stop after l run) =
       run_keeps tells q.action q.given budget first (Err stop) left last (own q.action q.given budget first (Err stop) left last run)
 
-  pause_keeps : (timings : Option (ℕ × ℕ)) (busy : ℕ) (old : MachineState) (result : Result (Unit {0}) ClientError) (new : MachineState) → Pauses (Allows tells) timings busy old result new → Keeps old new
+  pause_keeps : (timings : Option (ℕ × ℕ)) (busy : ℕ) (old : MachineState) (result : Result (Unit {0}) ClientError) (new : MachineState) →
+      Pauses (Allows tells) timings busy old result new → Keeps old new
   pause_keeps timings busy old result new pause = elim pause as (λ result new pause. Keeps old new) [
     | Untimed none ↦ record { range = refl; scratch = refl }
     | Timed known new is less waits ↦ record { range = ap (λ (w : MachineState). length w.memory.range) waits; scratch = ap (λ (w : MachineState). w.memory.scratch) waits }
     | TooOften known is more ↦ record { range = refl; scratch = refl }
   ]
 
-  busy_keeps : (timings : Option (ℕ × ℕ)) (budget : ℕ) (first : MachineState) (busy left : ℕ) (last : MachineState) → Busy (Allows tells) own_entries timings budget first busy left last → Keeps first last
+  busy_keeps : (timings : Option (ℕ × ℕ)) (budget : ℕ) (first : MachineState) (busy left : ℕ) (last : MachineState) → Busy (Allows tells) own_entries timings
+      budget first busy left last → Keeps first last
   busy_keeps timings budget first busy left last NotYet = record { range = refl; scratch = refl }
   busy_keeps timings budget first busy left last (Again before asked mid answer after next new earlier run more pause) =
       keeps_then first mid last (busy_keeps timings budget first before asked mid earlier)
-      (keeps_then mid next last (run_keeps tells CheckBusyStatus 0 asked mid (Ok answer) left next (own CheckBusyStatus 0 asked mid (Ok answer) left next run)) (pause_keeps timings (suc before) next (Ok tt) last pause))
+      (keeps_then mid next last (run_keeps tells CheckBusyStatus 0 asked mid (Ok answer) left next (own CheckBusyStatus 0 asked mid (Ok answer) left next run))
+      (pause_keeps timings (suc before) next (Ok tt) last pause))
 
-  waits_keep : (timings : Option (ℕ × ℕ)) (budget : ℕ) (first : MachineState) (result : Result (Unit {0}) ClientError) (left : ℕ) (last : MachineState) → Waits (Allows tells) own_entries timings budget first result left last → Keeps first last
+  waits_keep : (timings : Option (ℕ × ℕ)) (budget : ℕ) (first : MachineState) (result : Result (Unit {0}) ClientError) (left : ℕ) (last : MachineState) →
+      Waits (Allows tells) own_entries timings budget first result left last → Keeps first last
   waits_keep timings budget first result left last waits = elim waits as (λ result left last waits. Keeps first last) [
     | IsIdle busy asked mid after last earlier run ↦
-        keeps_then first mid last (busy_keeps timings budget first busy asked mid earlier) (run_keeps tells CheckBusyStatus 0 asked mid (Ok 0) after last (own CheckBusyStatus 0 asked mid (Ok 0) after last run))
+        keeps_then first mid last (busy_keeps timings budget first busy asked mid earlier) (run_keeps tells CheckBusyStatus 0 asked mid (Ok 0) after last
+        (own CheckBusyStatus 0 asked mid (Ok 0) after last run))
     | IsStopped busy asked mid stop after last earlier run ↦
-        keeps_then first mid last (busy_keeps timings budget first busy asked mid earlier) (run_keeps tells CheckBusyStatus 0 asked mid (Err stop) after last (own CheckBusyStatus 0 asked mid (Err stop) after last run))
+        keeps_then first mid last (busy_keeps timings budget first busy asked mid earlier) (run_keeps tells CheckBusyStatus 0 asked mid (Err stop) after last
+        (own CheckBusyStatus 0 asked mid (Err stop) after last run))
     | IsLate busy asked mid answer after next error last earlier run more pause ↦
         keeps_then first mid last (busy_keeps timings budget first busy asked mid earlier)
-        (keeps_then mid next last (run_keeps tells CheckBusyStatus 0 asked mid (Ok answer) after next (own CheckBusyStatus 0 asked mid (Ok answer) after next run)) (pause_keeps timings (suc busy) next (Err error) last pause))
+        (keeps_then mid next last (run_keeps tells CheckBusyStatus 0 asked mid (Ok answer) after next (own CheckBusyStatus 0 asked mid (Ok answer) after next
+        run)) (pause_keeps timings (suc busy) next (Err error) last pause))
   ]
 
-  pause_late : (timings : Option (ℕ × ℕ)) (busy : ℕ) (old : MachineState) (result : Result (Unit {0}) ClientError) (new : MachineState) (error : ClientError) → result ≡ Err error → Pauses (Allows tells) timings busy old result new → IsCutShort error
+  pause_late : (timings : Option (ℕ × ℕ)) (busy : ℕ) (old : MachineState) (result : Result (Unit {0}) ClientError) (new : MachineState) (error : ClientError) →
+      result ≡ Err error → Pauses (Allows tells) timings busy old result new → IsCutShort error
   pause_late timings busy old result new error is pause = (elim pause as (λ result new pause. result ≡ Err error → IsCutShort error) [
     | Untimed none ↦ λ e. absurd (cc e)
     | Timed known new is less waits ↦ λ e. absurd (cc e)
     | TooOften known is more ↦ λ e. let same : Late (10 * (busy - 1)) ≡ error = cc in subst (λ (x : ClientError). IsCutShort x) same tt
   ]) is
 
-  waits_halted : (timings : Option (ℕ × ℕ)) (budget : ℕ) (first : MachineState) (error : ClientError) (left : ℕ) (last : MachineState) → Waits (Allows tells) own_entries timings budget first (Err error) left last → IsCutShort error
+  waits_halted : (timings : Option (ℕ × ℕ)) (budget : ℕ) (first : MachineState) (error : ClientError) (left : ℕ) (last : MachineState) →
+      Waits (Allows tells) own_entries timings budget first (Err error) left last → IsCutShort error
   waits_halted timings budget first error left last (IsStopped busy asked mid stop after l earlier run) = tt
   waits_halted timings budget first error left last (IsLate busy asked mid answer after next e l earlier run more pause) = pause_late timings (suc busy) next (Err error) last error refl pause
 
@@ -215,7 +242,8 @@ module _ (tells : Type 0) (own : OwnProgramsRun tells) where
   AreOfSequence [] = Unit {0}
   AreOfSequence (request ∷ rest) = IsOfSequence request.action × AreOfSequence rest
 
-  asks_with_fewer : (requests : List Request) → AreOfSequence requests → (budget : ℕ) (first : MachineState) (answers : List ℕ) (left : ℕ) (last : MachineState) → Asks (Allows tells) own_entries requests budget first (Ok answers) left last
+  asks_with_fewer : (requests : List Request) → AreOfSequence requests → (budget : ℕ) (first : MachineState) (answers : List ℕ) (left : ℕ) (last : MachineState)
+      → Asks (Allows tells) own_entries requests budget first (Ok answers) left last
       → (spent : ℕ) × (left + spent ≡ budget) × ((spare total : ℕ) → spare + spent ≡ total → Asks (Allows tells) own_entries requests total first (Ok answers) spare last)
   asks_with_fewer [] are budget first answers left last (NoneLeft b o) =
       (0, omega arith, λ spare total sum. subst (λ (n : ℕ). Asks (Allows tells) own_entries [] n first (Ok []) spare first) (let e : spare ≡ total = omega arith in e) (NoneLeft spare first))
@@ -242,10 +270,12 @@ module _ (tells : Type 0) (own : OwnProgramsRun tells) where
             (run_of_own tells CheckBusyStatus tt 0 (spare + steps.0) mid (Ok answer) spare next (steps.2 spare)) more pause,
       )
 
-  waits_with_fewer : (timings : Option (ℕ × ℕ)) (budget : ℕ) (first : MachineState) (result : Result (Unit {0}) ClientError) (left : ℕ) (last : MachineState) → result ≡ Ok tt → Waits (Allows tells) own_entries timings budget first result left last
+  waits_with_fewer : (timings : Option (ℕ × ℕ)) (budget : ℕ) (first : MachineState) (result : Result (Unit {0}) ClientError) (left : ℕ) (last : MachineState) →
+      result ≡ Ok tt → Waits (Allows tells) own_entries timings budget first result left last
       → (spent : ℕ) × (left + spent ≡ budget) × ((spare total : ℕ) → spare + spent ≡ total → Waits (Allows tells) own_entries timings total first (Ok tt) spare last)
   waits_with_fewer timings budget first result left last is waits =
-      (elim waits as (λ result left last waits. result ≡ Ok tt → (spent : ℕ) × (left + spent ≡ budget) × ((spare total : ℕ) → spare + spent ≡ total → Waits (Allows tells) own_entries timings total first (Ok tt) spare last)) [
+      (elim waits as (λ result left last waits. result ≡ Ok tt → (spent : ℕ) × (left + spent ≡ budget) × ((spare total : ℕ) → spare + spent ≡ total →
+      Waits (Allows tells) own_entries timings total first (Ok tt) spare last)) [
         | IsIdle busy asked mid after last earlier run ↦ λ e.
             let steps = with_other_steps tells CheckBusyStatus 0 asked mid (Ok 0) after last 0 refl (own CheckBusyStatus 0 asked mid (Ok 0) after last run) in
             let inner = busy_with_fewer timings budget first busy asked mid earlier in (
@@ -260,25 +290,30 @@ module _ (tells : Type 0) (own : OwnProgramsRun tells) where
 
   -- CHECK_BUSY_STATUS is the machine's own
 
-  busy_own : (pieces : ℕ) (timings : Option (ℕ × ℕ)) (budget : ℕ) (first : MachineState) (busy left : ℕ) (last : MachineState) → Busy (Allows tells) (shadow_entries pieces) timings budget first busy left last
+  busy_own : (pieces : ℕ) (timings : Option (ℕ × ℕ)) (budget : ℕ) (first : MachineState) (busy left : ℕ) (last : MachineState) →
+      Busy (Allows tells) (shadow_entries pieces) timings budget first busy left last
       → Busy (Allows tells) own_entries timings budget first busy left last
   busy_own pieces timings budget first busy left last NotYet = NotYet
   busy_own pieces timings budget first busy left last (Again before asked mid answer after next new earlier run more pause) =
-      Again before asked mid answer left next last (busy_own pieces timings budget first before asked mid earlier) (performs_own tells pieces CheckBusyStatus tt 0 asked mid (Ok answer) left next run) more pause
+      Again before asked mid answer left next last (busy_own pieces timings budget first before asked mid earlier)
+      (performs_own tells pieces CheckBusyStatus tt 0 asked mid (Ok answer) left next run) more pause
 
   waits_own : (pieces : ℕ) (timings : Option (ℕ × ℕ)) (budget : ℕ) (first : MachineState) (result : Result (Unit {0}) ClientError) (left : ℕ) (last : MachineState)
       → Waits (Allows tells) (shadow_entries pieces) timings budget first result left last → Waits (Allows tells) own_entries timings budget first result left last
   waits_own pieces timings budget first result left last waits = elim waits as (λ result left last waits. Waits (Allows tells) own_entries timings budget first result left last) [
-    | IsIdle busy asked mid after last earlier run ↦ IsIdle busy asked mid after last (busy_own pieces timings budget first busy asked mid earlier) (performs_own tells pieces CheckBusyStatus tt 0 asked mid (Ok 0) after last run)
+    | IsIdle busy asked mid after last earlier run ↦ IsIdle busy asked mid after last (busy_own pieces timings budget first busy asked mid earlier)
+        (performs_own tells pieces CheckBusyStatus tt 0 asked mid (Ok 0) after last run)
     | IsStopped busy asked mid stop after last earlier run ↦
         IsStopped busy asked mid stop after last (busy_own pieces timings budget first busy asked mid earlier) (performs_own tells pieces CheckBusyStatus tt 0 asked mid (Err stop) after last run)
     | IsLate busy asked mid answer after next error last earlier run more pause ↦
-        IsLate busy asked mid answer after next error last (busy_own pieces timings budget first busy asked mid earlier) (performs_own tells pieces CheckBusyStatus tt 0 asked mid (Ok answer) after next run) more pause
+        IsLate busy asked mid answer after next error last (busy_own pieces timings budget first busy asked mid earlier)
+        (performs_own tells pieces CheckBusyStatus tt 0 asked mid (Ok answer) after next run) more pause
   ]
 
 -- A command up to its status
 
-record UntilAsOwn (tells : Type 0) (pieces : ℕ) (timings : Option (ℕ × ℕ)) (requests : List Request) (budget : ℕ) (first : MachineState) (outcome : Result (Unit {0}) ClientError) (left : ℕ) (told : MachineState) : Type 0 where
+record UntilAsOwn (tells : Type 0) (pieces : ℕ) (timings : Option (ℕ × ℕ)) (requests : List Request) (budget : ℕ) (first : MachineState)
+    (outcome : Result (Unit {0}) ClientError) (left : ℕ) (told : MachineState) : Type 0 where
   scratch : List ℕ
   long : length scratch ≡ 4096
   own_budget : ℕ
@@ -289,15 +324,19 @@ record UntilAsOwn (tells : Type 0) (pieces : ℕ) (timings : Option (ℕ × ℕ)
   paid : PaysMoves pieces budget outcome left own_budget own_left
   shown : OnOk outcome (ShowsRecord pieces told own_told)
 
-module _ (tells : Type 0) (own : OwnProgramsRun tells) (pieces : ℕ) (timings : Option (ℕ × ℕ)) (before : List Request) (are : AreBefore before) (budget : ℕ) (first : MachineState) (rooms : HoldsPieces first pieces) where
+module _ (tells : Type 0) (own : OwnProgramsRun tells) (pieces : ℕ) (timings : Option (ℕ × ℕ)) (before : List Request) (are : AreBefore before) (budget : ℕ)
+    (first : MachineState) (rooms : HoldsPieces first pieces) where
   -- the machine behind EXECUTE_OPERATION still has room
-  rooms_behind : (scratch : List ℕ) (own_budget : ℕ) (result : Result (List ℕ) RunStop) (left : ℕ) (mid : MachineState) (asked : ℕ) (waited : Result (Unit {0}) ClientError) (after : ℕ) (idle : MachineState) → length scratch ≡ 4096
-      → Asks (Allows tells) own_entries (executes before) own_budget (holding (range_with_record pieces first) scratch first) result left mid → Waits (Allows tells) own_entries timings asked mid waited after idle → HoldsPieces idle pieces
+  rooms_behind : (scratch : List ℕ) (own_budget : ℕ) (result : Result (List ℕ) RunStop) (left : ℕ) (mid : MachineState) (asked : ℕ)
+      (waited : Result (Unit {0}) ClientError) (after : ℕ) (idle : MachineState) → length scratch ≡ 4096
+      → Asks (Allows tells) own_entries (executes before) own_budget (holding (range_with_record pieces first) scratch first) result left mid →
+      Waits (Allows tells) own_entries timings asked mid waited after idle → HoldsPieces idle pieces
   rooms_behind scratch own_budget result left mid asked waited after idle long asks waits =
       let one = asks_keep tells own (executes before) own_budget (holding (range_with_record pieces first) scratch first) result left mid asks in
       let two = waits_keep tells own timings asked mid waited after idle waits in
       let size : length (part first.memory.scratch 0 (128 * pieces)) ≡ 128 * pieces = length-part first.memory.scratch 0 (128 * pieces) (omega (arith, rooms.scratch, rooms.few)) in
-      let same : length (range_with_record pieces first) ≡ length first.memory.range = length-put_at first.memory.range 0 (part first.memory.scratch 0 (128 * pieces)) (omega (arith, size, rooms.range)) in
+      let same : length (range_with_record pieces first) ≡ length first.memory.range =
+      length-put_at first.memory.range 0 (part first.memory.scratch 0 (128 * pieces)) (omega (arith, size, rooms.range)) in
       record {
         scratch = ap (λ (xs : List ℕ). length xs) (two.scratch ∙ one.scratch) ∙ long;
         range = omega (arith, two.range, one.range, same, rooms.range);
@@ -311,10 +350,13 @@ module _ (tells : Type 0) (own : OwnProgramsRun tells) (pieces : ℕ) (timings :
   are_of (request ∷ rest) all = (all.0.1, are_of rest all.1)
 
   -- the status: the record is moved out, and then told by the machine's own program
-  told_as_own : (scratch : List ℕ) (own_budget : ℕ) (answers : List ℕ) (asked : ℕ) (mid : MachineState) (waited : ℕ) (idle : MachineState) (run : Result ℕ RunStop) (left : ℕ) (told : MachineState) (outcome : Result (Unit {0}) ClientError)
-      → length scratch ≡ 4096 → own_budget + move_steps pieces ≡ budget → Asks (Allows tells) own_entries (executes before) own_budget (holding (range_with_record pieces first) scratch first) (Ok answers) asked mid
+  told_as_own : (scratch : List ℕ) (own_budget : ℕ) (answers : List ℕ) (asked : ℕ) (mid : MachineState) (waited : ℕ) (idle : MachineState)
+      (run : Result ℕ RunStop) (left : ℕ) (told : MachineState) (outcome : Result (Unit {0}) ClientError)
+      → length scratch ≡ 4096 → own_budget + move_steps pieces ≡ budget → Asks (Allows tells) own_entries (executes before) own_budget
+      (holding (range_with_record pieces first) scratch first) (Ok answers) asked mid
       → Waits (Allows tells) own_entries timings asked mid (Ok tt) waited idle
-      → ((own_budget own_asked own_waited own_left : ℕ) (own_told : MachineState) → Asks (Allows tells) own_entries (executes before) own_budget (holding (range_with_record pieces first) scratch first) (Ok answers) own_asked mid
+      → ((own_budget own_asked own_waited own_left : ℕ) (own_told : MachineState) → Asks (Allows tells) own_entries (executes before) own_budget
+      (holding (range_with_record pieces first) scratch first) (Ok answers) own_asked mid
       → Waits (Allows tells) own_entries timings own_asked mid (Ok tt) own_waited idle → Performs (Allows tells) own_entries GetCommandStatus 0 own_waited idle run own_left own_told
       → UntilStatus (Allows tells) own_entries timings (executes before) own_budget (holding (range_with_record pieces first) scratch first) outcome own_left own_told)
       → ((stop : RunStop) → run ≡ Err stop → outcome ≡ Err (Stopped stop)) → HoldsPieces idle pieces
@@ -355,7 +397,8 @@ module _ (tells : Type 0) (own : OwnProgramsRun tells) (pieces : ℕ) (timings :
             let total = fewer_waits.0 + fewer_asks.0 in
             let again = run_of_own tells GetCommandStatus tt 0 0 idle (Err Budget) 0 idle (StopsAtOnce refl) in
             let at_stop = joins total fewer_waits.0 0 0 idle (fewer_asks.2 fewer_waits.0 total refl) (fewer_waits.2 0 fewer_waits.0 (omega arith)) again in
-            cut_by outcome (Stopped Budget) (stops Budget refl) tt total 0 idle told at_stop comes.elsewhere (omega (arith, short, spent, asked_steps, waited_steps)) (omega (arith, short, spent, asked_steps, waited_steps))
+            cut_by outcome (Stopped Budget) (stops Budget refl) tt total 0 idle told at_stop comes.elsewhere
+            (omega (arith, short, spent, asked_steps, waited_steps)) (omega (arith, short, spent, asked_steps, waited_steps))
       ]) joins stops
     where
       shown_by : (outcome : Result (Unit {0}) ClientError) {A : Type 0} → A → OnOk outcome A
@@ -363,7 +406,8 @@ module _ (tells : Type 0) (own : OwnProgramsRun tells) (pieces : ℕ) (timings :
       shown_by (Err error) is = tt
 
       cut_by : (outcome : Result (Unit {0}) ClientError) (error : ClientError) → outcome ≡ Err error → IsCutShort error → (total own_left : ℕ) (own_told told : MachineState)
-          → UntilStatus (Allows tells) own_entries timings (executes before) total (holding (range_with_record pieces first) scratch first) outcome own_left own_told → AgreesElsewhere told own_told → total ≤ budget → budget ≤ total + 2 * move_steps pieces
+          → UntilStatus (Allows tells) own_entries timings (executes before) total (holding (range_with_record pieces first) scratch first) outcome own_left
+          own_told → AgreesElsewhere told own_told → total ≤ budget → budget ≤ total + 2 * move_steps pieces
           → UntilAsOwn tells pieces timings (executes before) budget first outcome 0 told
       cut_by outcome error is halted total own_left own_told told until beside less more =
           subst (λ (r : Result (Unit {0}) ClientError). UntilAsOwn tells pieces timings (executes before) budget first r 0 told) (sym is)
@@ -373,7 +417,8 @@ module _ (tells : Type 0) (own : OwnProgramsRun tells) (pieces : ℕ) (timings :
             own_budget = total;
             own_left = own_left;
             own_told = own_told;
-            until = subst (λ (r : Result (Unit {0}) ClientError). UntilStatus (Allows tells) own_entries timings (executes before) total (holding (range_with_record pieces first) scratch first) r own_left own_told) is until;
+            until = subst (λ (r : Result (Unit {0}) ClientError). UntilStatus (Allows tells) own_entries timings (executes before) total
+                (holding (range_with_record pieces first) scratch first) r own_left own_told) is until;
             beside = beside;
             paid = PaysPart error 0 total own_left halted less more;
             shown = tt;
@@ -381,30 +426,35 @@ module _ (tells : Type 0) (own : OwnProgramsRun tells) (pieces : ℕ) (timings :
 
   not_asked : (stop : RunStop) (answers : Result (List ℕ) RunStop) (left : ℕ) (told : MachineState) → answers ≡ Err stop → AskedAsOwn tells pieces (executes before) budget first answers left told
       → UntilAsOwn tells pieces timings (executes before) budget first (Err (Stopped stop)) left told
-  not_asked stop answers left told is asked = (elim asked as (λ answers left told asked. answers ≡ Err stop → UntilAsOwn tells pieces timings (executes before) budget first (Err (Stopped stop)) left told) [
-    | AsksAll scratch own_budget answers left told long spent asks ↦ λ e. record {
-      scratch = scratch;
-      long = long;
-      own_budget = own_budget;
-      own_left = left;
-      own_told = told;
-      until = NotAsked stop left told (subst (λ (a : Result (List ℕ) RunStop). Asks (Allows tells) own_entries (executes before) own_budget (holding (range_with_record pieces first) scratch first) a left told) e asks);
-      beside = refl;
-      paid = PaysPart (Stopped stop) left own_budget left tt (omega arith) (omega arith);
-      shown = tt;
-    }
-    | AsksSome scratch own_budget own_left own_told other left told long less more asks beside ↦ λ e. let same : other ≡ stop = cc in record {
-      scratch = scratch;
-      long = long;
-      own_budget = own_budget;
-      own_left = own_left;
-      own_told = own_told;
-      until = NotAsked stop own_left own_told (subst (λ (s : RunStop). Asks (Allows tells) own_entries (executes before) own_budget (holding (range_with_record pieces first) scratch first) (Err s) own_left own_told) same asks);
-      beside = beside;
-      paid = PaysPart (Stopped stop) left own_budget own_left tt less (omega arith);
-      shown = tt;
-    }
-  ]) is
+  not_asked stop answers left told is asked =
+      (elim asked as (λ answers left told asked. answers ≡ Err stop → UntilAsOwn tells pieces timings (executes before) budget first (Err (Stopped stop)) left
+      told) [
+        | AsksAll scratch own_budget answers left told long spent asks ↦ λ e. record {
+          scratch = scratch;
+          long = long;
+          own_budget = own_budget;
+          own_left = left;
+          own_told = told;
+          until = NotAsked stop left told (subst (λ (a : Result (List ℕ) RunStop). Asks (Allows tells) own_entries (executes before) own_budget
+              (holding (range_with_record pieces first) scratch first) a left told) e asks);
+          beside = refl;
+          paid = PaysPart (Stopped stop) left own_budget left tt (omega arith) (omega arith);
+          shown = tt;
+        }
+        | AsksSome scratch own_budget own_left own_told other left told long less more asks beside ↦ λ e. let same : other ≡ stop = cc in record {
+          scratch = scratch;
+          long = long;
+          own_budget = own_budget;
+          own_left = own_left;
+          own_told = own_told;
+          until = NotAsked stop own_left own_told
+              (subst (λ (s : RunStop). Asks (Allows tells) own_entries (executes before) own_budget (holding (range_with_record pieces first) scratch first) (Err s)
+              own_left own_told) same asks);
+          beside = beside;
+          paid = PaysPart (Stopped stop) left own_budget own_left tt less (omega arith);
+          shown = tt;
+        }
+      ]) is
 
   -- what was asked and answered
   record IsAsked (answers : List ℕ) (asked : ℕ) (mid : MachineState) : Type 0 where
@@ -414,7 +464,8 @@ module _ (tells : Type 0) (own : OwnProgramsRun tells) (pieces : ℕ) (timings :
     spent : own_budget + move_steps pieces ≡ budget
     asks : Asks (Allows tells) own_entries (executes before) own_budget (holding (range_with_record pieces first) scratch first) (Ok answers) asked mid
 
-  is_asked : (answers : List ℕ) (result : Result (List ℕ) RunStop) (asked : ℕ) (mid : MachineState) → result ≡ Ok answers → AskedAsOwn tells pieces (executes before) budget first result asked mid → IsAsked answers asked mid
+  is_asked : (answers : List ℕ) (result : Result (List ℕ) RunStop) (asked : ℕ) (mid : MachineState) → result ≡ Ok answers →
+      AskedAsOwn tells pieces (executes before) budget first result asked mid → IsAsked answers asked mid
   is_asked answers result asked mid is shadow = (elim shadow as (λ result asked mid shadow. result ≡ Ok answers → IsAsked answers asked mid) [
     | AsksAll scratch own_budget result left last long spent asks ↦ λ e. record {
       scratch = scratch;
@@ -426,7 +477,8 @@ module _ (tells : Type 0) (own : OwnProgramsRun tells) (pieces : ℕ) (timings :
     | AsksSome scratch own_budget own_left own_last stop left last long less more asks beside ↦ λ e. absurd (cc e)
   ]) is
 
-  until_as_own : (outcome : Result (Unit {0}) ClientError) (left : ℕ) (told : MachineState) → UntilStatus (Allows tells) (shadow_entries pieces) timings (executes before) budget first outcome left told
+  until_as_own : (outcome : Result (Unit {0}) ClientError) (left : ℕ) (told : MachineState) → UntilStatus (Allows tells) (shadow_entries pieces) timings
+      (executes before) budget first outcome left told
       → UntilAsOwn tells pieces timings (executes before) budget first outcome left told
   until_as_own outcome left told until = elim until as (λ outcome left told until. UntilAsOwn tells pieces timings (executes before) budget first outcome left told) [
     | NotAsked stop left told asks ↦ not_asked stop (Err stop) left told refl (asked_as_own tells own pieces before are budget first rooms (Err stop) left told asks)
@@ -464,7 +516,8 @@ module _ (tells : Type 0) (own : OwnProgramsRun tells) (pieces : ℕ) (timings :
   ]
 
   -- END_OPERATION is the machine's own, and leaves both memories alone
-  paid_closed : (outcome : Result (Unit {0}) ClientError) (ended : Result ℕ RunStop) (left own_budget own_left : ℕ) → PaysMoves pieces budget outcome left own_budget own_left → PaysMoves pieces budget (closed outcome ended) left own_budget own_left
+  paid_closed : (outcome : Result (Unit {0}) ClientError) (ended : Result ℕ RunStop) (left own_budget own_left : ℕ) → PaysMoves pieces budget outcome left
+      own_budget own_left → PaysMoves pieces budget (closed outcome ended) left own_budget own_left
   paid_closed outcome ended left own_budget own_left paid = elim paid as (λ outcome left own_budget own_left paid. PaysMoves pieces budget (closed outcome ended) left own_budget own_left) [
     | PaysBoth result left own_budget same ↦ PaysBoth (closed result ended) left own_budget same
     | PaysPart error left own_budget own_left halted less more ↦ PaysPart error left own_budget own_left halted less more
@@ -475,7 +528,8 @@ module _ (tells : Type 0) (own : OwnProgramsRun tells) (pieces : ℕ) (timings :
   shown_closed (Ok done) (Err stop) f is = tt
   shown_closed (Err error) ended f is = tt
 
-  pub sequence_as_own : (result : Result (Unit {0}) ClientError) (left : ℕ) (last : MachineState) → Sequence (Allows tells) (shadow_entries pieces) timings (executes before) budget first result left last
+  pub sequence_as_own : (result : Result (Unit {0}) ClientError) (left : ℕ) (last : MachineState) → Sequence (Allows tells) (shadow_entries pieces) timings
+      (executes before) budget first result left last
       → SequenceAsOwn tells pieces timings (executes before) budget first result left last
   sequence_as_own result left last sequence =
       let is = until_as_own sequence.outcome left sequence.told sequence.until_status in
@@ -506,15 +560,20 @@ module _ (tells : Type 0) (own : OwnProgramsRun tells) (pieces : ℕ) (timings :
 
 -- The client's four
 
-module _ (tells : Type 0) (own : OwnProgramsRun tells) (pieces : ℕ) (timings : Option (ℕ × ℕ)) (budget : ℕ) (first : MachineState) (rooms : HoldsPieces first pieces) (result : Result (Unit {0}) ClientError) (left : ℕ) (last : MachineState) where
-  pub write_as_own : Sequence (Allows tells) (shadow_entries pieces) timings write_requests budget first result left last → SequenceAsOwn tells pieces timings write_requests budget first result left last
+module _ (tells : Type 0) (own : OwnProgramsRun tells) (pieces : ℕ) (timings : Option (ℕ × ℕ)) (budget : ℕ) (first : MachineState)
+    (rooms : HoldsPieces first pieces) (result : Result (Unit {0}) ClientError) (left : ℕ) (last : MachineState) where
+  pub write_as_own : Sequence (Allows tells) (shadow_entries pieces) timings write_requests budget first result left last →
+      SequenceAsOwn tells pieces timings write_requests budget first result left last
   write_as_own = sequence_as_own tells own pieces timings (_ ∷ _ ∷ []) ((tt, tt, tt), ((tt, tt, tt), tt)) budget first rooms result left last
 
-  pub clear_as_own : (id : ℕ) → Sequence (Allows tells) (shadow_entries pieces) timings (clear_requests id) budget first result left last → SequenceAsOwn tells pieces timings (clear_requests id) budget first result left last
+  pub clear_as_own : (id : ℕ) → Sequence (Allows tells) (shadow_entries pieces) timings (clear_requests id) budget first result left last →
+      SequenceAsOwn tells pieces timings (clear_requests id) budget first result left last
   clear_as_own id = sequence_as_own tells own pieces timings (_ ∷ _ ∷ []) ((tt, tt, tt), ((tt, tt, tt), tt)) budget first rooms result left last
 
-  pub dummy_as_own : Sequence (Allows tells) (shadow_entries pieces) timings dummy_requests budget first result left last → SequenceAsOwn tells pieces timings dummy_requests budget first result left last
+  pub dummy_as_own : Sequence (Allows tells) (shadow_entries pieces) timings dummy_requests budget first result left last →
+      SequenceAsOwn tells pieces timings dummy_requests budget first result left last
   dummy_as_own = sequence_as_own tells own pieces timings (_ ∷ _ ∷ []) ((tt, tt, tt), ((tt, tt, tt), tt)) budget first rooms result left last
 
-  pub read_as_own : (id : ℕ) → Sequence (Allows tells) (shadow_entries pieces) timings (read_requests id) budget first result left last → SequenceAsOwn tells pieces timings (read_requests id) budget first result left last
+  pub read_as_own : (id : ℕ) → Sequence (Allows tells) (shadow_entries pieces) timings (read_requests id) budget first result left last →
+      SequenceAsOwn tells pieces timings (read_requests id) budget first result left last
   read_as_own id = sequence_as_own tells own pieces timings (_ ∷ _ ∷ _ ∷ []) ((tt, tt, tt), ((tt, tt, tt), ((tt, tt, tt), tt))) budget first rooms result left last

@@ -139,7 +139,8 @@ module _ {W : Type 0} (allows : W → Call → W → Type 0) (fits : W → Type 
 
   pub rounds_hold : (first : W) → fits first → (i : ℕ) → i ≤ count → Holds space i (after_rounds space i first)
   rounds_hold first fit zero within = begun_holds first fit
-  rounds_hold first fit (suc i) within = kept_holds i (space.copied i (after_rounds space i first)) (omega arith) (copied_holds i (after_rounds space i first) (omega arith) (rounds_hold first fit i (omega arith)))
+  rounds_hold first fit (suc i) within = kept_holds i (space.copied i (after_rounds space i first)) (omega arith)
+      (copied_holds i (after_rounds space i first) (omega arith) (rounds_hold first fit i (omega arith)))
 
   pub stage_fits : (first : W) → fits first → (stage : Stage) → IsStage count stage → fits (stage_in first stage)
   stage_fits first fit First is = fit
@@ -165,13 +166,15 @@ module _ {W : Type 0} (allows : W → Call → W → Type 0) (fits : W → Type 
     pub left : new ≡ stage_in first to
     pub spent : more + 1 + cost count stage ≡ cost count to
 
-  by : (first : W) (stage to : Stage) (d : Configuration) (more : ℕ) (new : W) (extra : ℕ) → IsStage count to → HasDone d more new (stage_at from target count to) extra (stage_in first to) → extra + 1 + cost count stage ≡ cost count to
+  by : (first : W) (stage to : Stage) (d : Configuration) (more : ℕ) (new : W) (extra : ℕ) → IsStage count to →
+      HasDone d more new (stage_at from target count to) extra (stage_in first to) → extra + 1 + cost count stage ≡ cost count to
       → LeadsOn first stage d more new
   by first stage to d more new extra is did spent = record { to = to; is_stage = is; goes = did.goes; left = did.left; spent = ap (λ (n : ℕ). n + 1 + cost count stage) did.only ∙ spent }
 
   -- the loop is left exactly behind the last piece
   skipped : (first : W) (i : ℕ) (d : Configuration) (more : ℕ) (new : W) → i < count → (test : Bool) → (128 * suc i == 128 * count) ≡ test
-      → HasDone d more new (if test then next (next (standing 11 (128 * suc i) 128 from target)) else next (standing 11 (128 * suc i) 128 from target)) 0 (after_rounds space (suc i) first) → LeadsOn first (Kept i) d more new
+      → HasDone d more new (if test then next (next (standing 11 (128 * suc i) 128 from target)) else next (standing 11 (128 * suc i) 128 from target)) 0
+      (after_rounds space (suc i) first) → LeadsOn first (Kept i) d more new
   skipped first i d more new within true test did =
       let last : suc i ≡ count = grind (arith, nat_tests) in
       by first (Kept i) Done d more new 0 tt
@@ -186,39 +189,51 @@ module _ {W : Type 0} (allows : W → Call → W → Type 0) (fits : W → Type 
       by first (Kept i) (Again i) d more new 0 (omega arith) did (omega arith)
 
   module _ (action : Action) (behind : List Entry) (given : ℕ) (first : W) (fit : fits first) where
-    pub stage_leads : (stage : Stage) → IsStage count stage → (stage ≡ Done → ⊥) → (entry : Entry) → slice_get (move_then action from target count behind).entries (stage_at from target count stage).place ≡ Some entry
-        → (d : Configuration) (more : ℕ) (new : W) → Step allows (task_of (move_then action from target count behind) given entry (stage_at from target count stage)) (stage_in first stage) d more new → LeadsOn first stage d more new
+    pub stage_leads : (stage : Stage) → IsStage count stage → (stage ≡ Done → ⊥) → (entry : Entry) →
+        slice_get (move_then action from target count behind).entries (stage_at from target count stage).place ≡ Some entry
+        → (d : Configuration) (more : ℕ) (new : W) →
+        Step allows (task_of (move_then action from target count behind) given entry (stage_at from target count stage)) (stage_in first stage) d more new →
+        LeadsOn first stage d more new
     unfolding move_entries
     stage_leads First is not entry here d more new step =
         let fits_from = below.source in
-        by first First Second d more new 0 tt (puts_number allows fits from target count space (move_then action from target count behind) given action Source from entry _ _ d more new (same_Some _ _ here) (omega arith) fit step) refl
+        by first First Second d more new 0 tt (puts_number allows fits from target count space (move_then action from target count behind) given action Source
+        from entry _ _ d more new (same_Some _ _ here) (omega arith) fit step) refl
     stage_leads Second is not entry here d more new step =
         let fits_target = below.target_is in
-        by first Second Third d more new 0 tt (puts_number allows fits from target count space (move_then action from target count behind) given action Target target entry _ _ d more new (same_Some _ _ here) (omega arith) (stage_fits first fit Second tt) step) refl
+        by first Second Third d more new 0 tt (puts_number allows fits from target count space (move_then action from target count behind) given action Target
+        target entry _ _ d more new (same_Some _ _ here) (omega arith) (stage_fits first fit Second tt) step) refl
     stage_leads Third is not entry here d more new step =
-        by first Third Fourth d more new 0 tt (puts_number allows fits from target count space (move_then action from target count behind) given action Length 128 entry _ _ d more new (same_Some _ _ here) (omega arith) (stage_fits first fit Third tt) step) refl
+        by first Third Fourth d more new 0 tt (puts_number allows fits from target count space (move_then action from target count behind) given action Length
+        128 entry _ _ d more new (same_Some _ _ here) (omega arith) (stage_fits first fit Third tt) step) refl
     stage_leads Fourth is not entry here d more new step =
-        by first Fourth Fifth d more new 0 tt (puts_number allows fits from target count space (move_then action from target count behind) given action Offset 0 entry _ _ d more new (same_Some _ _ here) (omega arith) (stage_fits first fit Fourth tt) step) refl
+        by first Fourth Fifth d more new 0 tt (puts_number allows fits from target count space (move_then action from target count behind) given action Offset 0
+        entry _ _ d more new (same_Some _ _ here) (omega arith) (stage_fits first fit Fourth tt) step) refl
     stage_leads Fifth is not entry here d more new step =
         let holds = begun_holds first fit in
         let fits_from = below.source in
-        by first Fifth Sixth d more new 0 tt (takes allows fits from target count space (move_then action from target count behind) given action of_source Source from entry _ _ d more new (same_Some _ _ here) holds.source (omega arith) holds.fit step) refl
+        by first Fifth Sixth d more new 0 tt (takes allows fits from target count space (move_then action from target count behind) given action of_source
+        Source from entry _ _ d more new (same_Some _ _ here) holds.source (omega arith) holds.fit step) refl
     stage_leads Sixth is not entry here d more new step =
         let holds = begun_holds first fit in
         let fits_target = below.target_is in
-        by first Sixth Seventh d more new 0 tt (takes allows fits from target count space (move_then action from target count behind) given action of_target Target target entry _ _ d more new (same_Some _ _ here) holds.target_is (omega arith) holds.fit step) refl
+        by first Sixth Seventh d more new 0 tt (takes allows fits from target count space (move_then action from target count behind) given action of_target
+        Target target entry _ _ d more new (same_Some _ _ here) holds.target_is (omega arith) holds.fit step) refl
     stage_leads Seventh is not entry here d more new step =
         let holds = begun_holds first fit in
-        by first Seventh (Head 0) d more new 0 below.some (takes allows fits from target count space (move_then action from target count behind) given action of_var2 Length 128 entry _ _ d more new (same_Some _ _ here) holds.size (omega arith) holds.fit step) refl
+        by first Seventh (Head 0) d more new 0 below.some (takes allows fits from target count space (move_then action from target count behind) given action
+        of_var2 Length 128 entry _ _ d more new (same_Some _ _ here) holds.size (omega arith) holds.fit step) refl
     stage_leads (Head i) is not entry here d more new step =
         let holds = rounds_hold first fit i (omega arith) in
         by first (Head i) (Copied i) d more new 2 is
-        (copies_piece allows fits from target count space (move_then action from target count behind) given action Offset i entry _ _ d more new (same_Some _ _ here) holds.offset is below.source below.target_is refl refl refl holds.fit step) (omega arith)
+        (copies_piece allows fits from target count space (move_then action from target count behind) given action Offset i entry _ _ d more new
+        (same_Some _ _ here) holds.offset is below.source below.target_is refl refl refl holds.fit step) (omega arith)
     stage_leads (Copied i) is not entry here d more new step =
         let holds = copied_holds i (after_rounds space i first) is (rounds_hold first fit i (omega arith)) in
         let fits_from = below.source in
         by first (Copied i) (Loaded i) d more new 0 is
-        (takes allows fits from target count space (move_then action from target count behind) given action of_var1 Offset (128 * i) entry _ _ d more new (same_Some _ _ here) holds.offset (omega arith) holds.fit step) (omega arith)
+        (takes allows fits from target count space (move_then action from target count behind) given action of_var1 Offset (128 * i) entry _ _ d more new
+        (same_Some _ _ here) holds.offset (omega arith) holds.fit step) (omega arith)
     stage_leads (Loaded i) is not entry here d more new step =
         let did = adds_both allows fits from target count space (move_then action from target count behind) given action entry _ _ d more new (same_Some _ _ here) step in
         let fits_from = below.source in
@@ -229,12 +244,14 @@ module _ {W : Type 0} (allows : W → Call → W → Type 0) (fits : W → Type 
         let holds = copied_holds i (after_rounds space i first) is (rounds_hold first fit i (omega arith)) in
         let fits_from = below.source in
         by first (Added i) (Kept i) d more new 0 is
-        (stores_var1 allows fits from target count space (move_then action from target count behind) given action Offset entry _ _ d more new (same_Some _ _ here) (omega arith) holds.fit step) (omega arith)
+        (stores_var1 allows fits from target count space (move_then action from target count behind) given action Offset entry _ _ d more new
+        (same_Some _ _ here) (omega arith) holds.fit step) (omega arith)
     stage_leads (Kept i) is not entry here d more new step =
         let holds = rounds_hold first fit (suc i) (omega arith) in
         let fits_from = below.source in
         skipped first i d more new is (128 * suc i == 128 * count) refl
-        (skips_or_goes allows fits from target count space (move_then action from target count behind) given action Offset (128 * count) (128 * suc i) entry _ _ d more new (same_Some _ _ here) holds.offset (omega arith) holds.fit step)
+        (skips_or_goes allows fits from target count space (move_then action from target count behind) given action Offset (128 * count) (128 * suc i) entry _ _
+        d more new (same_Some _ _ here) holds.offset (omega arith) holds.fit step)
     stage_leads (Again i) is not entry here d more new step =
         by first (Again i) (Head (suc i)) d more new 0 is
         (goes_to allows fits from target count space (move_then action from target count behind) given action 7 entry _ _ d more new (same_Some _ _ here) step) (omega arith)

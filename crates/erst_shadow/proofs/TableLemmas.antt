@@ -8,7 +8,10 @@ use Rattle.apei_tables.specs.declared.headers.Header.{Header}
 use Rattle.apei_tables.specs.Layout.{spelling as header_spelling}
 use Rattle.apei_tables.specs.Tables.{IsSealed}
 use Rattle.erst_entries.specs.declared.actions.Action.{Action}
-use Rattle.erst_entries.specs.declared.actions.Action.TheVariants.{BeginWriteOperation, BeginReadOperation, BeginClearOperation, EndOperation, SetRecordOffset, ExecuteOperation, CheckBusyStatus, GetCommandStatus, GetRecordIdentifier, SetRecordIdentifier, GetRecordCount, BeginDummyWriteOperation, GetErrorLogAddressRange, GetErrorLogAddressRangeLength, GetErrorLogAddressRangeAttributes}
+use Rattle.erst_entries.specs.declared.actions.Action.TheVariants.{BeginWriteOperation, BeginReadOperation, BeginClearOperation, EndOperation, SetRecordOffset}
+use Rattle.erst_entries.specs.declared.actions.Action.TheVariants.{ExecuteOperation, CheckBusyStatus, GetCommandStatus, GetRecordIdentifier}
+use Rattle.erst_entries.specs.declared.actions.Action.TheVariants.{SetRecordIdentifier, GetRecordCount, BeginDummyWriteOperation, GetErrorLogAddressRange}
+use Rattle.erst_entries.specs.declared.actions.Action.TheVariants.{GetErrorLogAddressRangeLength, GetErrorLogAddressRangeAttributes}
 use Rattle.erst_entries.specs.declared.entries.Entry.{Entry}
 use Rattle.erst_entries.specs.Layout.{Erst, IsEntry, AreEntries, entry_spelling, front_spelling, spelling, FitsErst}
 use Rattle.erst_entries.specs.Tables.{IsErst, Finished}
@@ -42,8 +45,44 @@ AreEntries-append (x ∷ xs) ys front rest = (front.0, AreEntries-append xs ys f
 
 move_fits : (action : Action) (from target size : ℕ) → from < 2 ^ 64 → target < 2 ^ 64 → size < 2 ^ 64 → AreEntries (move_entries action from target size)
 unfolding move_entries
-move_fits action from target size from_fits target_fits size_fits =
-    (number_fits action Source from from_fits, (number_fits action Target target target_fits, (number_fits action Length 128 (lit< tt), (number_fits action Offset 0 (lit< tt), (register_fits action 0x10 Source (lit< tt), (register_fits action 0x11 Target (lit< tt), (register_fits action 0x06 Length (lit< tt), (register_fits action 0x12 Offset (lit< tt), (register_fits action 0x05 Offset (lit< tt), (entry_fits action 0x08 (register_of 0 0 0) 0 0 (lit< tt) none_gas (lit< tt) (lit< tt), (register_fits action 0x07 Offset (lit< tt), (entry_fits action 0x0E (register_of 64 4 (address_of Offset)) size _ (lit< tt) (move_gas Offset) size_fits (lit< tt), (entry_fits action 0x0F (register_of 0 0 0) 7 0 (lit< tt) none_gas (lit< tt) (lit< tt), tt)))))))))))))
+move_fits action from target size from_fits target_fits size_fits = (
+  number_fits action Source from from_fits,
+  (
+    number_fits action Target target target_fits,
+    (
+      number_fits action Length 128 (lit< tt),
+      (
+        number_fits action Offset 0 (lit< tt),
+        (
+          register_fits action 0x10 Source (lit< tt),
+          (
+            register_fits action 0x11 Target (lit< tt),
+            (
+              register_fits action 0x06 Length (lit< tt),
+              (
+                register_fits action 0x12 Offset (lit< tt),
+                (
+                  register_fits action 0x05 Offset (lit< tt),
+                  (
+                    entry_fits action 0x08 (register_of 0 0 0) 0 0 (lit< tt) none_gas (lit< tt) (lit< tt),
+                    (
+                      register_fits action 0x07 Offset (lit< tt),
+                      (
+                        entry_fits action 0x0E (register_of 64 4 (address_of Offset)) size _ (lit< tt) (move_gas Offset) size_fits
+                            (lit< tt),
+                        (entry_fits action 0x0F (register_of 0 0 0) 7 0 (lit< tt) none_gas (lit< tt) (lit< tt), tt),
+                      ),
+                    ),
+                  ),
+                ),
+              ),
+            ),
+          ),
+        ),
+      ),
+    ),
+  ),
+)
 
 before_fit : AreEntries entries_before
 before_fit =
@@ -53,8 +92,49 @@ between_fit : AreEntries entries_between
 between_fit = (act_fits ExecuteOperation, (act_fits CheckBusyStatus, (is_one_fits CheckBusyStatus, tt)))
 
 behind_fit : (size : ℕ) → size < 2 ^ 64 → AreEntries (entries_behind size)
-behind_fit size fits =
-    (act_fits GetCommandStatus, (answer_fits GetCommandStatus 0xFF (lit< tt), (act_fits GetRecordIdentifier, (answer_fits GetRecordIdentifier _ (lit< tt), (give_fits SetRecordIdentifier, (act_fits SetRecordIdentifier, (act_fits GetRecordCount, (answer_fits GetRecordCount _ (lit< tt), (act_fits BeginDummyWriteOperation, (number_fits GetErrorLogAddressRange Source scratch_at (lit< tt), (register_fits GetErrorLogAddressRange 0x0 Source (lit< tt), (number_fits GetErrorLogAddressRangeLength Length size fits, (register_fits GetErrorLogAddressRangeLength 0x0 Length (lit< tt), (number_fits GetErrorLogAddressRangeAttributes Offset 0 (lit< tt), (register_fits GetErrorLogAddressRangeAttributes 0x0 Offset (lit< tt), tt)))))))))))))))
+behind_fit size fits = (
+  act_fits GetCommandStatus,
+  (
+    answer_fits GetCommandStatus 0xFF (lit< tt),
+    (
+      act_fits GetRecordIdentifier,
+      (
+        answer_fits GetRecordIdentifier _ (lit< tt),
+        (
+          give_fits SetRecordIdentifier,
+          (
+            act_fits SetRecordIdentifier,
+            (
+              act_fits GetRecordCount,
+              (
+                answer_fits GetRecordCount _ (lit< tt),
+                (
+                  act_fits BeginDummyWriteOperation,
+                  (
+                    number_fits GetErrorLogAddressRange Source scratch_at (lit< tt),
+                    (
+                      register_fits GetErrorLogAddressRange 0x0 Source (lit< tt),
+                      (
+                        number_fits GetErrorLogAddressRangeLength Length size fits,
+                        (
+                          register_fits GetErrorLogAddressRangeLength 0x0 Length (lit< tt),
+                          (
+                            number_fits GetErrorLogAddressRangeAttributes Offset 0 (lit< tt),
+                            (register_fits GetErrorLogAddressRangeAttributes 0x0 Offset (lit< tt), tt),
+                          ),
+                        ),
+                      ),
+                    ),
+                  ),
+                ),
+              ),
+            ),
+          ),
+        ),
+      ),
+    ),
+  ),
+)
 
 entries_fit : (pieces : ℕ) → pieces ≤ 31 → AreEntries (shadow_entries pieces)
 unfolding shadow_entries
@@ -137,12 +217,14 @@ abbrev pub blank_with : List Entry → Erst
 blank_with entries = record { header = own_header (codes "ERST") 0 0; header_size = 48; reserved = 0; count = 0; entries = entries }
 
 -- entries were put behind others
-pub put_behind : (before after : Erst) (there more others : List Entry) → before ≡ blank_with there → after ≡ record before { entries = before.entries ++ more } → more ≡ others → after ≡ blank_with (there ++ others)
+pub put_behind : (before after : Erst) (there more others : List Entry) → before ≡ blank_with there → after ≡ record before { entries = before.entries ++ more }
+    → more ≡ others → after ≡ blank_with (there ++ others)
 put_behind before after there more others is put same = put ∙ ap (λ (t : Erst). record t { entries = t.entries ++ more }) is ∙ ap (λ (es : List Entry). blank_with (there ++ es)) same
 
 -- the lists together
 pub all_entries : (pieces : ℕ)
-    → ((((([] ++ entries_before) ++ move_entries ExecuteOperation scratch_at log_range_at (128 * pieces)) ++ entries_between) ++ move_entries GetCommandStatus log_range_at scratch_at (128 * pieces)) ++ entries_behind (128 * pieces)) ++ tell told_actions
+    → ((((([] ++ entries_before) ++ move_entries ExecuteOperation scratch_at log_range_at (128 * pieces)) ++ entries_between) ++ move_entries GetCommandStatus
+    log_range_at scratch_at (128 * pieces)) ++ entries_behind (128 * pieces)) ++ tell told_actions
     ≡ shadow_entries pieces
 unfolding move_entries shadow_entries
 all_entries pieces = refl
@@ -152,7 +234,8 @@ finished_is pieces before after is finished =
     let size : after.header.length ≡ 48 + 32 * shadow_count = finished.size ∙ ap (λ (t : Erst). 48 + 32 * length t.entries) is ∙ ap (λ (n : ℕ). 48 + 32 * n) (count_is pieces) in
     let count : after.count ≡ shadow_count = finished.counted ∙ ap (λ (t : Erst). length t.entries) is ∙ count_is pieces in
     let header : after.header ≡ own_header (codes "ERST") (48 + 32 * shadow_count) after.header.checksum =
-    finished.header ∙ ap (λ (t : Erst). record t.header { length = after.header.length; checksum = after.header.checksum }) is ∙ ap (λ (n : ℕ). own_header (codes "ERST") n after.header.checksum) size in
+    finished.header ∙ ap (λ (t : Erst). record t.header { length = after.header.length; checksum = after.header.checksum }) is
+    ∙ ap (λ (n : ℕ). own_header (codes "ERST") n after.header.checksum) size in
     finished.others ∙ ap (λ (t : Erst). record t { header = after.header; count = after.count }) is
     ∙ ap (λ (h : Header). record { header = h; header_size = 48; reserved = 0; count = after.count; entries = shadow_entries pieces }) header
     ∙ ap (λ (n : ℕ). record { header = own_header (codes "ERST") (48 + 32 * shadow_count) after.header.checksum; header_size = 48; reserved = 0; count = n; entries = shadow_entries pieces }) count
@@ -163,7 +246,8 @@ pub record IsShadow (pieces : ℕ) (table : Erst) : Type 0 where
   pub size : length (spelling table) ≡ 48 + 32 * shadow_count
   pub erst : IsErst table (spelling table)
 
-pub is_shadow : (pieces : ℕ) (before after : Erst) → before ≡ blank_with (shadow_entries pieces) → Finished before after → IsSealed (spelling after) → after.header.checksum < 256 → IsShadow pieces after
+pub is_shadow : (pieces : ℕ) (before after : Erst) → before ≡ blank_with (shadow_entries pieces) → Finished before after → IsSealed (spelling after) →
+    after.header.checksum < 256 → IsShadow pieces after
 is_shadow pieces before after is finished sealed byte =
     let checksum = after.header.checksum in
     let made : after ≡ table_with pieces checksum = finished_is pieces before after is finished in

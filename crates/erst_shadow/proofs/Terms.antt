@@ -90,7 +90,8 @@ pub data MovesThenExecutes (tells : Type 0) (pieces given budget : ℕ) (first :
 pub data MovesThenTells (tells : Type 0) (pieces given budget : ℕ) (first : MachineState) : Result ℕ RunStop → ℕ → MachineState → Type 0 where
   TellsMoved : (spare : ℕ) (mid : MachineState) (answer : Result ℕ RunStop) (left : ℕ) (last : MachineState) → spare + move_steps pieces ≡ budget → MovedOut pieces first mid
       → Performs (Allows tells) own_entries GetCommandStatus given spare mid answer left last → MovesThenTells tells pieces given budget first answer left last
-  StopsMovingOut : (last : MachineState) → budget < move_steps pieces → KeepsOthers first last → last.memory.range ≡ first.memory.range → MovesThenTells tells pieces given budget first (Err Budget) 0 last
+  StopsMovingOut : (last : MachineState) → budget < move_steps pieces → KeepsOthers first last → last.memory.range ≡ first.memory.range →
+      MovesThenTells tells pieces given budget first (Err Budget) 0 last
 
 -- a sequence was cut short: a program stopped, or the firmware was busy for too long
 abbrev pub IsCutShort : ClientError → Type 0

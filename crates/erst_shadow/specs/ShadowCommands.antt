@@ -43,7 +43,8 @@ pub record AttachesShadow (budget : ℕ) (first : MachineState) (result : Result
   pub last_is : last ≡ holding first.memory.range last.memory.scratch (with_value (timings_of first.device.store.layout) first)
 
 -- a command by the machine's own table, between a machine beside the first and one beside the last, with fewer steps by the two moves
-pub record AsOwn (pieces : ℕ) (first last : MachineState) (Own : MachineState → MachineState → ℕ → Result (Unit {0}) ClientError → ℕ → Type 0) (budget : ℕ) (result : Result (Unit {0}) ClientError) (left : ℕ) : Type 0 where
+pub record AsOwn (pieces : ℕ) (first last : MachineState) (Own : MachineState → MachineState → ℕ → Result (Unit {0}) ClientError → ℕ → Type 0) (budget : ℕ)
+    (result : Result (Unit {0}) ClientError) (left : ℕ) : Type 0 where
   pub own_first : MachineState
   pub own_last : MachineState
   pub own_budget : ℕ
@@ -77,7 +78,8 @@ pub data ShadowWriteAnswered (bytes : List ℕ) (budget : ℕ) (first : MachineS
 -- a read: the record's length is that in the log range of the machine beside the last, and so many of its bytes are copied out. Of a
 -- longer record than the pieces hold the length is refused, when the cursor has moved
 pub data ShadowReadAnswered (id : ℕ) (out : List ℕ) (budget : ℕ) (first : MachineState) : Result ℕ ClientError → List ℕ → ℕ → MachineState → Type 0 where
-  IsNotRead : (error : ClientError) (left : ℕ) (last : MachineState) → ShadowRead (pieces_in first) first last id budget (Err error) left → ShadowReadAnswered id out budget first (Err error) out left last
+  IsNotRead : (error : ClientError) (left : ℕ) (last : MachineState) → ShadowRead (pieces_in first) first last id budget (Err error) left →
+      ShadowReadAnswered id out budget first (Err error) out left last
   IsNotCopied : (error : ClientError) (left : ℕ) (last : MachineState) (read : ShadowRead (pieces_in first) first last id budget (Ok tt) left)
       → copy_refusal (number_at read.own_last.memory.range 20 4) (128 * pieces_in first) (length out) ≡ Some error → ShadowReadAnswered id out budget first (Err error) out left last
   IsCopied : (left : ℕ) (last : MachineState) (read : ShadowRead (pieces_in first) first last id budget (Ok tt) left)

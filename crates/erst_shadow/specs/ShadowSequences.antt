@@ -29,7 +29,8 @@ pub record ShowsRecord (pieces : ℕ) (last own_last : MachineState) : Type 0 wh
 
 -- the same sequence by the machine's own table, from the machine with the record in its log range to one that differs from the last in
 -- the two memories alone. Where it is answered with `Ok`, the record that then stands in the log range stands in the scratch memory too
-pub record SequenceAsOwn (tells : Type 0) (pieces : ℕ) (timings : Option (ℕ × ℕ)) (requests : List Request) (budget : ℕ) (first : MachineState) (result : Result (Unit {0}) ClientError) (left : ℕ) (last : MachineState) : Type 0 where
+pub record SequenceAsOwn (tells : Type 0) (pieces : ℕ) (timings : Option (ℕ × ℕ)) (requests : List Request) (budget : ℕ) (first : MachineState)
+    (result : Result (Unit {0}) ClientError) (left : ℕ) (last : MachineState) : Type 0 where
   pub scratch : List ℕ
   pub long : length scratch ≡ scratch_len
   pub own_budget : ℕ

@@ -1,7 +1,10 @@
 -- A second table for the machine: the error log address range is its scratch memory, and the programs of the table itself move the record
 -- between that memory and the machine's own log range.
 use Rattle.std.specs.Prelude.{ℕ, ◌+◌, ◌-◌, ◌*◌, ◌/◌, ◌%◌, ◌^◌, min, sum, List, [], ◌∷◌, ◌++◌, length, codes}
-use Rattle.erst_entries.specs.declared.actions.Action.TheVariants.{BeginWriteOperation, BeginReadOperation, BeginClearOperation, EndOperation, SetRecordOffset, ExecuteOperation, CheckBusyStatus, GetCommandStatus, GetRecordIdentifier, SetRecordIdentifier, GetRecordCount, BeginDummyWriteOperation, GetErrorLogAddressRange, GetErrorLogAddressRangeLength, GetErrorLogAddressRangeAttributes}
+use Rattle.erst_entries.specs.declared.actions.Action.TheVariants.{BeginWriteOperation, BeginReadOperation, BeginClearOperation, EndOperation, SetRecordOffset}
+use Rattle.erst_entries.specs.declared.actions.Action.TheVariants.{ExecuteOperation, CheckBusyStatus, GetCommandStatus, GetRecordIdentifier}
+use Rattle.erst_entries.specs.declared.actions.Action.TheVariants.{SetRecordIdentifier, GetRecordCount, BeginDummyWriteOperation, GetErrorLogAddressRange}
+use Rattle.erst_entries.specs.declared.actions.Action.TheVariants.{GetErrorLogAddressRangeLength, GetErrorLogAddressRangeAttributes}
 use Rattle.erst_entries.specs.declared.entries.Entry.{Entry}
 use Rattle.erst_entries.specs.Layout.{Erst, spelling}
 use Rattle.erst_device.specs.Actions.{log_range_at}

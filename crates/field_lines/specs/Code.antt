@@ -1,6 +1,7 @@
 -- What the code's tables say.
 use Rattle.std.specs.Prelude.{ℕ, List, map}
-use Rattle.field_lines.specs.Fields.{Shown, Field, field, decimal_number, hexadecimal, guid, text, one_of, flags, bits, stamp, seconds, register, digits_of_bytes, all_bytes, all_lines, register_fields}
+use Rattle.field_lines.specs.Fields.{Shown, Field, field, decimal_number, hexadecimal, guid, text, one_of, flags, bits, stamp, seconds, register}
+use Rattle.field_lines.specs.Fields.{digits_of_bytes, all_bytes, all_lines, register_fields}
 use Rattle.field_lines.specs.Layouts.{Group, Measure, fixed, told, rest, Sign, number_sign, guid_sign, Inside, Structure, Heading, part_heading, inside_heading, end_heading, end_of_parts}
 use Rattle.field_lines.specs.declared.field.Field.{Field as FieldOfCode}
 use Rattle.field_lines.specs.declared.field.Name.{Name}

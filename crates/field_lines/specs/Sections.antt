@@ -3,7 +3,9 @@ use Rattle.std.specs.Prelude.{ℕ, if◌then◌else◌, List, [], ◌∷◌, Opt
 use Rattle.field_lines.specs.Layouts.{Structure}
 use Rattle.field_lines.specs.declared.sections.Named.{Named}
 use Rattle.field_lines.specs.declared.sections.SectionKind.{SectionKind}
-use Rattle.field_lines.specs.declared.sections.SectionKind.TheVariants.{ProcessorGeneric, Ia32Processor, ArmProcessor, MemoryError, MemoryError2, PciExpress, PciBus, PciComponent, FirmwareRecord, DmaRemapping, DirectedIo, Iommu, Ccix, LinuxMachineCheck, LinuxDmesg}
+use Rattle.field_lines.specs.declared.sections.SectionKind.TheVariants.{ProcessorGeneric, Ia32Processor, ArmProcessor, MemoryError, MemoryError2, PciExpress}
+use Rattle.field_lines.specs.declared.sections.SectionKind.TheVariants.{PciBus, PciComponent, FirmwareRecord, DmaRemapping, DirectedIo, Iommu, Ccix}
+use Rattle.field_lines.specs.declared.sections.SectionKind.TheVariants.{LinuxMachineCheck, LinuxDmesg}
 use Rattle.field_lines.specs.Processor.{processor_generic}
 use Rattle.field_lines.specs.Ia32.{ia32_processor}
 use Rattle.field_lines.specs.Arm.{arm_processor}

@@ -1,5 +1,6 @@
 -- What a change of a simulated flash leaves is what every flash owes.
-use Rattle.std.proofs.Common.{◌≡◌, ℕ, ◌+◌, ◌-◌, ◌^◌, ◌<◌, ◌≤◌, inl, inr, ◌↔◌, Bool, true, false, cond, List, [], ◌∷◌, length, replicate, Option, Some, None, Result, Ok, Err, IsErr, OnOk, is_some, refl, sym, ap, subst, ◌∙◌, arith, length-append}
+use Rattle.std.proofs.Common.{◌≡◌, ℕ, ◌+◌, ◌-◌, ◌^◌, ◌<◌, ◌≤◌, inl, inr, ◌↔◌, Bool, true, false, cond, List, [], ◌∷◌, length, replicate, Option, Some, None}
+use Rattle.std.proofs.Common.{Result, Ok, Err, IsErr, OnOk, is_some, refl, sym, ap, subst, ◌∙◌, arith, length-append}
 use Rattle.std.specs.Prelude.{◌==◌}
 use Rattle.std.proofs.lemmas.List.{length-replicate}
 use Rattle.base_model.specs.Bytes.{put_at, SameOutside}
@@ -10,7 +11,8 @@ use Rattle.flash_model.specs.declared.tear.Tear.{Tear}
 use Rattle.flash_model.specs.declared.tear.Tear.TheVariants.{Nothing, Whole, Zeros, Marks}
 use Rattle.flash_model.specs.declared.power.Power.{Power}
 use Rattle.flash_model.specs.declared.power.Power.TheVariants.{On, Until, Lost}
-use Rattle.flash_model.specs.Simulation.{Simulation, has_power, power_after, listed_tear, Fate, Uncounted, Unpowered, Reaches, steps_of, state_of, tear_at, fate_under, fate_of, image_left, with_change, faults_after, after_change, FailsBy, ChangeFails}
+use Rattle.flash_model.specs.Simulation.{Simulation, has_power, power_after, listed_tear, Fate, Uncounted, Unpowered, Reaches, steps_of, state_of, tear_at}
+use Rattle.flash_model.specs.Simulation.{fate_under, fate_of, image_left, with_change, faults_after, after_change, FailsBy, ChangeFails}
 
 -- the fate, by the count and the power
 pub fate_of-last : (flash : Simulation) → steps_of flash ≡ 2 ^ 64 - 1 → fate_of flash ≡ Uncounted

@@ -100,7 +100,8 @@ erased_now sector at old new within put =
     let all : length {A = ℕ} (replicate sector 0xFF) ≡ sector = length-replicate sector 0xFF in
     subst (λ (k : ℕ). part new at k ≡ replicate sector 0xFF) all (rw put (part-put_at old at (replicate sector 0xFF) (omega (arith, all))))
 
-other_sector : (span : Span) (sector number s : ℕ) (old new : List ℕ) → SameOutside (number * sector) sector old new → (number ≡ s → ⊥) → IsErasedBut span sector old (s * sector) → IsErasedBut span sector new (s * sector)
+other_sector : (span : Span) (sector number s : ℕ) (old new : List ℕ) → SameOutside (number * sector) sector old new → (number ≡ s → ⊥) →
+    IsErasedBut span sector old (s * sector) → IsErasedBut span sector new (s * sector)
 other_sector span sector number s old new same apart but = elim (cases_lt s number) [
   | inl below ↦ stays_before span sector (s * sector) (number * sector) sector old new same (slots_apart s number sector below) but
   | inr above ↦ stays_behind span sector (s * sector) (number * sector) sector old new same (slots_apart number s sector (omega (arith, above, apart))) but
@@ -149,7 +150,8 @@ known_of_none spans old new known s h =
 -- the first sectors were widened by a range
 pub record AreWidened (sector at len n : ℕ) (old now : List Span) : Type 0 where
   pub count : length now ≡ length old
-  pub before : (s : ℕ) → s < n → s < length old → (image new : List ℕ) → SameOutside at len image new → IsErasedBut (get_or old s no_bytes) sector image (s * sector) → IsErasedBut (get_or now s no_bytes) sector new (s * sector)
+  pub before : (s : ℕ) → s < n → s < length old → (image new : List ℕ) → SameOutside at len image new → IsErasedBut (get_or old s no_bytes) sector image
+      (s * sector) → IsErasedBut (get_or now s no_bytes) sector new (s * sector)
   pub behind : (s : ℕ) → n ≤ s → get_or now s no_bytes ≡ get_or old s no_bytes
 
 pub widened_none : (sector at len n : ℕ) (spans : List Span) → n * sector ≤ at → AreWidened sector at len n spans spans

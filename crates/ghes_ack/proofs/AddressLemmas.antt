@@ -29,9 +29,11 @@ length-window place at ram w = length-block at ram (has_block place at ram w)
 pub window-with_window : (place : ℕ) (at : BlockWindow) (ram : RamState) (bytes : List ℕ) → HasAddressed place at ram → length bytes ≡ at.len → block_bytes at (with_block at ram bytes) ≡ bytes
 window-with_window place at ram bytes w n = block-with_block at ram bytes (has_block place at ram w) n
 
-pub address-with_window : (place : ℕ) (at : BlockWindow) (ram : RamState) (bytes : List ℕ) → HasAddressed place at ram → length bytes ≡ at.len → address_at place (with_block at ram bytes) ≡ address_at place ram
+pub address-with_window : (place : ℕ) (at : BlockWindow) (ram : RamState) (bytes : List ℕ) → HasAddressed place at ram → length bytes ≡ at.len →
+    address_at place (with_block at ram bytes) ≡ address_at place ram
 address-with_window place at ram bytes w n =
-    ap little (mapped_apart ram (Memory at.block) at.len bytes (Memory place) 8 w.fills w.block (block_some place at ram w) n w.status (omega arith) (disjoint_sym (Memory place) 8 (Memory at.block) at.len w.status_block))
+    ap little (mapped_apart ram (Memory at.block) at.len bytes (Memory place) 8 w.fills w.block (block_some place at ram w) n w.status (omega arith)
+    (disjoint_sym (Memory place) 8 (Memory at.block) at.len w.status_block))
 
 pub window-with_address : (place : ℕ) (at : BlockWindow) (ram : RamState) → HasAddressed place at ram → block_bytes at (with_address_at place at ram) ≡ block_bytes at ram
 window-with_address place at ram w =

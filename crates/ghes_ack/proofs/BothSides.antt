@@ -25,7 +25,8 @@ side_able Firmware ends b ram all stands = able ends b ram all stands
 side_able Reader ends b ram all stands = (able ends b ram all stands, all.far)
 
 -- whichever side it was, the other one is where it was
-pub side_done : (side : Side) (ends next : Ends) (b new : Blocks HandoverMap) (ram memory : RamState) (events : List Event) → IsConsistent ends b → HasRoom window_of 0 new → Stands (handover_of ends b) ram → SideRuns side ends (over b ram) events next (over new memory) →
+pub side_done : (side : Side) (ends next : Ends) (b new : Blocks HandoverMap) (ram memory : RamState) (events : List Event) → IsConsistent ends b →
+    HasRoom window_of 0 new → Stands (handover_of ends b) ram → SideRuns side ends (over b ram) events next (over new memory) →
     SideDone side events ends next b new ram memory
 side_done Firmware ends next b new ram memory events all room stands (runs, same) =
     subst (λ (reader : ReaderEnd). SideDone Firmware events ends (record { firmware = next.firmware; reader = reader }) b new ram memory) (sym same)
@@ -35,7 +36,8 @@ side_done Reader ends next b new ram memory events all room stands (runs, goes, 
     (reader_done ends.firmware ends.reader next.reader b new ram memory events all room stands runs goes)
 
 -- a run of one turn is that turn
-turn_of_one : (side : Side) (event : Event) (h after : HandoverState) (ram memory : RamState) (m : Machine) → Runs side (event ∷ []) (over h ram) (over after memory) m → Turns side event (over h ram) (over after memory) m
+turn_of_one : (side : Side) (event : Event) (h after : HandoverState) (ram memory : RamState) (m : Machine) → Runs side (event ∷ []) (over h ram)
+    (over after memory) m → Turns side event (over h ram) (over after memory) m
 turn_of_one side event h after ram memory m run = record {
   turned = record { event_is = ap (λ (es : List Event). get_or es 0 Idle) run.turned.events_are; stands = run.turned.stands };
   map = run.map;
@@ -43,7 +45,8 @@ turn_of_one side event h after ram memory m run = record {
 }
 
 -- a turn of one piece, of a handover whose sides stay in their place
-module _ (side : Side) (place : Option Ends) (ends : Ends) (b : Blocks HandoverMap) (h : HandoverState) (ram : RamState) (is : place ≡ Some ends) (all : AreConsistent place b) (seen : view_of place b ≡ h) (stands : Stands h ram) where
+module _ (side : Side) (place : Option Ends) (ends : Ends) (b : Blocks HandoverMap) (h : HandoverState) (ram : RamState) (is : place ≡ Some ends)
+    (all : AreConsistent place b) (seen : view_of place b ≡ h) (stands : Stands h ram) where
   at_hand : IsConsistent ends b
   at_hand = subst (λ (o : Option Ends). AreConsistent o b) is all
 
@@ -60,7 +63,8 @@ module _ (side : Side) (place : Option Ends) (ends : Ends) (b : Blocks HandoverM
     done : (event : Event) → SideRuns side ends (over b ram) (event ∷ []) ends (over new memory) → SideDone side (event ∷ []) ends ends b new ram memory
     done event runs = side_done side ends ends b new ram memory (event ∷ []) at_hand room (stands.0, stands_so stands.0 stands.1) runs
 
-    turned : (event : Event) → SideRuns side ends (over b ram) (event ∷ []) ends (over new memory) → (m : Machine) → StandsFor h ram m → Turns side event (over h ram) (over (view_of place new) memory) m
+    turned : (event : Event) → SideRuns side ends (over b ram) (event ∷ []) ends (over new memory) → (m : Machine) → StandsFor h ram m →
+        Turns side event (over h ram) (over (view_of place new) memory) m
     turned event runs m st =
         subst (λ (o : Option Ends). Turns side event (over h ram) (over (view_of o new) memory) m) (sym is)
         (subst (λ (at : HandoverState). Turns side event (over at ram) (over (handover_of ends new) memory) m) seen_as
@@ -71,6 +75,7 @@ module _ (side : Side) (place : Option Ends) (ends : Ends) (b : Blocks HandoverM
     turned_in_place None (same, still) = (ap (view_of place) same ∙ seen, still)
     turned_in_place (Some event) runs = λ m st. turned event runs m st
 
-    pub consistent_in_place : (result : Option Event) → MatchOption result ((new ≡ b) × (memory ≡ ram)) (λ event. SideRuns side ends (over b ram) (event ∷ []) ends (over new memory)) → AreConsistent place new
+    pub consistent_in_place : (result : Option Event) → MatchOption result ((new ≡ b) × (memory ≡ ram)) (λ event. SideRuns side ends (over b ram) (event ∷ [])
+        ends (over new memory)) → AreConsistent place new
     consistent_in_place None (same, still) = subst (AreConsistent place) (sym same) all
     consistent_in_place (Some event) runs = subst (λ (o : Option Ends). AreConsistent o new) (sym is) (done event runs).consistent

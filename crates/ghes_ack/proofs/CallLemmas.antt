@@ -95,7 +95,8 @@ last_fits len blocks block all =
     let n = length-append blocks (block ∷ []) in
     subst (Fits len) (get_or_at blocks block [] [] (length blocks) refl) (all (length blocks) [] (omega (arith, n)))
 
-goes : (calls : List Call) (first last : WithMemory HandoverState) (w : Watched) (len : ℕ) → length w.machine.window ≡ len → StandsFor first.state first.memory w.machine → DoAll calls first last → Goes calls last w len
+goes : (calls : List Call) (first last : WithMemory HandoverState) (w : Watched) (len : ℕ) → length w.machine.window ≡ len →
+    StandsFor first.state first.memory w.machine → DoAll calls first last → Goes calls last w len
 goes [] first last w len n st same = record { stands = subst (λ (p : WithMemory HandoverState). StandsFor p.state p.memory w.machine) (sym same) st; events = refl; fitting = tt }
 goes (Submits block ∷ calls) first last w len n st (between, does, later) =
     let next : StandsFor between.state first.memory (submitted w.machine block) = does.1 first.memory w.machine st in
@@ -128,7 +129,8 @@ goes (ManyTurns side events ∷ calls) first last w len n st (between, does, lat
     let rest = goes calls between last (after_times side (length events) w) len wide here later in
     record {
       stands = subst (λ (x : Watched). StandsFor last.state last.memory x.machine) (sym (times_run side (length events) w (steps_of calls))) rest.stands;
-      events = ap (λ (es : List Event). es ++ answers_of calls) t.events_are ∙ ap (λ (es : List Event). events_of_times side (length events) w.machine ++ es) rest.events ∙ sym (times_events side (length events) w (steps_of calls));
+      events = ap (λ (es : List Event). es ++ answers_of calls) t.events_are ∙ ap (λ (es : List Event). events_of_times side (length events) w.machine ++ es)
+          rest.events ∙ sym (times_events side (length events) w (steps_of calls));
       fitting = times_fitting side (length events) len (steps_of calls) rest.fitting;
     }
 goes (OthersWrite ∷ calls) first last w len n st (between, does, later) =
@@ -147,7 +149,8 @@ started_long window n is room =
     let d = length-drop (0 + length (spelled 4 0)) window in
     omega (arith, z, a, b, d, is, room)
 
-pub hands_over : (window : List ℕ) (calls : List Call) (first last : WithMemory HandoverState) → StandsFor first.state first.memory (started window) → DoAll calls first last → HandsOver window calls last
+pub hands_over : (window : List ℕ) (calls : List Call) (first last : WithMemory HandoverState) → StandsFor first.state first.memory (started window) →
+    DoAll calls first last → HandsOver window calls last
 hands_over window calls first last st all =
     let g = goes calls first last (from_start window) first.state.map.len st.state.window st all in
     let room = st.state.room in

@@ -12,7 +12,8 @@ use Rattle.ghes_ack.specs.Maps.{HasWindows, IsSet, IsClear, ack_bytes, ack_read,
 use Rattle.ghes_ack.specs.Publications.{ClearsThenShows}
 use Rattle.ghes_ack.proofs.PieceLemmas.{part-front}
 use Rattle.ghes_ack.proofs.WindowLemmas.{status_write_is, length-status as length-status_in}
-use Rattle.ghes_ack.proofs.MemoryLemmas.{has_block, number_read, number_small, clear_bits, window-with_ack, window-with_address, ack-with_window, ack-with_address, HasWindows-with_window, HasWindows-with_ack, HasWindows-with_address}
+use Rattle.ghes_ack.proofs.MemoryLemmas.{has_block, number_read, number_small, clear_bits, window-with_ack, window-with_address, ack-with_window}
+use Rattle.ghes_ack.proofs.MemoryLemmas.{ack-with_address, HasWindows-with_window, HasWindows-with_ack, HasWindows-with_address}
 use Rattle.std.specs.Prelude.{bit_or}
 
 pub windows_address : (map : HandoverMap) (ram new : RamState) → new ≡ with_address map ram → HasWindows map ram → HasWindows map new
@@ -69,7 +70,8 @@ published_memory map ram a new block word w head bytes is_word is_a clear is =
     }
 
 -- a publication of plain memory, by its order
-pub published_in_order : (map : HandoverMap) (ram new : RamState) (block : List ℕ) → HasWindows map ram → 20 ≤ length block → AreBytes block → ClearsThenShows Allows map (number_at block 0 4) ram new → IsPublished map ram new block
+pub published_in_order : (map : HandoverMap) (ram new : RamState) (block : List ℕ) → HasWindows map ram → 20 ≤ length block → AreBytes block →
+    ClearsThenShows Allows map (number_at block 0 4) ram new → IsPublished map ram new block
 published_in_order map ram new block w head bytes p =
     let place = located ram.windows map.ack.place (ack_bytes map) in
     let first = p.order.0 in

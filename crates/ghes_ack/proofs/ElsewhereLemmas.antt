@@ -52,7 +52,8 @@ far_stored ram at n s bytes other m fills p is some apart = go (cases_lt 0 m) (l
       moved ∙ ap (λ (r : Result ℕ SpaceFault). bytes_in r (put_at ram.bytes s bytes) m) e ∙ sym (ap (λ (r : Result ℕ SpaceFault). bytes_in r ram.bytes m) e)
   go (inr none) r e =
       let zero : m ≡ 0 = omega (arith, none) in
-      moved ∙ subst (λ (k : ℕ). bytes_in (located ram.windows other m) (put_at ram.bytes s bytes) k ≡ bytes_in (located ram.windows other m) ram.bytes k) (sym zero) (no_bytes (located ram.windows other m) (put_at ram.bytes s bytes) ram.bytes)
+      moved ∙ subst (λ (k : ℕ). bytes_in (located ram.windows other m) (put_at ram.bytes s bytes) k ≡ bytes_in (located ram.windows other m) ram.bytes k)
+      (sym zero) (no_bytes (located ram.windows other m) (put_at ram.bytes s bytes) ram.bytes)
 
 pub SameWhere-stored : (is_far : Place → ℕ → Type 0) (ram : RamState) (at : Place) (n s : ℕ) (bytes : List ℕ) → FillsWindows ram → IsPlaced ram.windows at n s → length bytes ≡ n → 0 < n →
     ((other : Place) (m : ℕ) → is_far other m → AreDisjoint other m at n) → SameWhere is_far ram (stored (located ram.windows at n) ram bytes)
@@ -72,11 +73,13 @@ of_window is_far map ram bytes w n apart = let b = block_placed map ram w in Sam
 
 of_ack : (is_far : Place → ℕ → Type 0) (map : HandoverMap) (ram : RamState) (x : ℕ) → HasWindows map ram →
     ((other : Place) (m : ℕ) → is_far other m → AreDisjoint other m map.ack.place (ack_bytes map)) → SameWhere is_far ram (with_ack map ram x)
-of_ack is_far map ram x w apart = let a = ack_placed map ram w in SameWhere-stored is_far ram map.ack.place (ack_bytes map) a.0 (spelled (ack_bytes map) x) w.fills a.1 (length-spelled (ack_bytes map) x) (ack_some map) apart
+of_ack is_far map ram x w apart = let a = ack_placed map ram w in SameWhere-stored is_far ram map.ack.place (ack_bytes map) a.0 (spelled (ack_bytes map) x)
+    w.fills a.1 (length-spelled (ack_bytes map) x) (ack_some map) apart
 
 of_address : (is_far : Place → ℕ → Type 0) (map : HandoverMap) (ram : RamState) → HasWindows map ram →
     ((other : Place) (m : ℕ) → is_far other m → AreDisjoint other m (Memory map.status) 8) → SameWhere is_far ram (with_address map ram)
-of_address is_far map ram w apart = let a = status_placed map ram w in SameWhere-stored is_far ram (Memory map.status) 8 a.0 (spelled 8 map.block) w.fills a.1 (length-spelled 8 map.block) (omega arith) apart
+of_address is_far map ram w apart = let a = status_placed map ram w in SameWhere-stored is_far ram (Memory map.status) 8 a.0 (spelled 8 map.block) w.fills a.1
+    (length-spelled 8 map.block) (omega arith) apart
 
 -- a start leaves all but the three windows
 pub elsewhere_started : (map : HandoverMap) (ram : RamState) → HasWindows map ram → SameWhere (IsOffMap map) ram (memory_started map ram)
@@ -92,7 +95,8 @@ elsewhere_started map ram w =
     (of_window (IsOffMap map) map b (with_status (window map ram) (spelled 4 0)) w_b n (λ other m far. far.1.1)))
 
 -- a turn leaves all but the register and the block's window
-pub elsewhere_after : (map : HandoverMap) (event : Event) (ram : RamState) (bytes : List ℕ) → HasWindows map ram → length bytes ≡ map.len → SameWhere (IsOffBlock map) ram (memory_after map event ram bytes)
+pub elsewhere_after : (map : HandoverMap) (event : Event) (ram : RamState) (bytes : List ℕ) → HasWindows map ram → length bytes ≡ map.len →
+    SameWhere (IsOffBlock map) ram (memory_after map event ram bytes)
 elsewhere_after map Idle ram bytes w n = SameWhere-refl (IsOffBlock map) ram
 elsewhere_after map Fill ram bytes w n = of_window (IsOffBlock map) map ram bytes w n (λ other m far. far.1)
 elsewhere_after map Publish ram bytes w n =
@@ -109,5 +113,6 @@ elsewhere_after map Clear ram bytes w n = of_window (IsOffBlock map) map ram byt
 elsewhere_after map Ack ram bytes w n = of_ack (IsOffBlock map) map ram (acknowledged map (ack_read map ram)) w (λ other m far. far.0)
 
 -- what a turn left, said of the memory that it left
-pub elsewhere_left : (map : HandoverMap) (event : Event) (ram new : RamState) → HasWindows map ram → HasWindows map new → new ≡ memory_after map event ram (window map new) → SameWhere (IsOffBlock map) ram new
+pub elsewhere_left : (map : HandoverMap) (event : Event) (ram new : RamState) → HasWindows map ram → HasWindows map new →
+    new ≡ memory_after map event ram (window map new) → SameWhere (IsOffBlock map) ram new
 elsewhere_left map event ram new w after is = subst (SameWhere (IsOffBlock map) ram) (sym is) (elsewhere_after map event ram (window map new) w (length-window map new after))

@@ -1,5 +1,6 @@
 -- Each turn of the machine, by what a handover keeps of it and what its window holds.
-use Rattle.std.proofs.Common.{◌≡◌, ◌∙◌, ℕ, suc, ◌+◌, ◌-◌, ◌*◌, ◌<◌, ◌≤◌, ◌⊎◌, inl, inr, zero-add, nat_lt, ◌==◌, cond, Bool, true, false, List, [], ◌∷◌, length, take, drop, get_or, refl, sym, ap, subst, arith, length-drop}
+use Rattle.std.proofs.Common.{◌≡◌, ◌∙◌, ℕ, suc, ◌+◌, ◌-◌, ◌*◌, ◌<◌, ◌≤◌, ◌⊎◌, inl, inr, zero-add, nat_lt, ◌==◌, cond, Bool, true, false, List, [], ◌∷◌, length}
+use Rattle.std.proofs.Common.{take, drop, get_or, refl, sym, ap, subst, arith, length-drop}
 use Rattle.std.proofs.lemmas.List.{drop-drop, get_or-drop}
 use Rattle.std.proofs.lemmas.Bool.Decides.{nat_tests}
 use Rattle.base_model.specs.Bytes.{part, number_at, spelled, put_at}
@@ -9,7 +10,8 @@ use Rattle.ghes_ack.specs.declared.events.Side.{Side}
 use Rattle.ghes_ack.specs.declared.events.Side.TheVariants.{Firmware, Reader}
 use Rattle.ghes_ack.specs.declared.events.Event.{Event}
 use Rattle.ghes_ack.specs.declared.events.Event.TheVariants.{Idle, Fill, Publish, Free, Wait, Nothing, Found, Copied, Took, Clear, Ack}
-use Rattle.ghes_ack.specs.Machine.{Machine, Situation, Filling, Published, Reading, Cleared, Acknowledged, Fits, at_work, last_taken, waiting_in, pieces, with_piece, with_status, firmware_turn, reader_turn, turned, IsFilling, IsWhole, IsEmptied, InSituation, IsState}
+use Rattle.ghes_ack.specs.Machine.{Machine, Situation, Filling, Published, Reading, Cleared, Acknowledged, Fits, at_work, last_taken, waiting_in, pieces}
+use Rattle.ghes_ack.specs.Machine.{with_piece, with_status, firmware_turn, reader_turn, turned, IsFilling, IsWhole, IsEmptied, InSituation, IsState}
 use Rattle.ghes_ack.proofs.Terms.{Turned}
 use Rattle.ghes_ack.proofs.Terms.{IsReading}
 use Rattle.ghes_ack.proofs.Terms.{offered}
@@ -26,7 +28,8 @@ pub record Next (side : Side) (event : Event) (k : Kept) (m : Machine) : Type 0 
 kept_state : (side : Side) (event : Event) (len : ℕ) (m n : Machine) → turned side m ≡ (event, n) → IsState len m → IsState len n
 kept_state side event len m n is st = subst (IsState len) (ap (λ (t : Turned). t.1) is) (turn_keeps len side m st)
 
-next_by : (side : Side) (event : Event) (k : Kept) (m n : Machine) → turned side m ≡ (event, n) → IsState k.len m → n.window ≡ k.bytes → n.situation ≡ k.situation → k.held ≡ drop n.acknowledged n.blocks → k.waiting ≡ waiting_in n →
+next_by : (side : Side) (event : Event) (k : Kept) (m n : Machine) → turned side m ≡ (event, n) → IsState k.len m → n.window ≡ k.bytes →
+    n.situation ≡ k.situation → k.held ≡ drop n.acknowledged n.blocks → k.waiting ≡ waiting_in n →
     k.filled ≡ n.filled → k.copied ≡ n.copied → k.last ≡ last_taken n → Next side event k m
 next_by side event k m n is st bytes situation blocks wait filled copied last = record {
   machine = n;
@@ -81,7 +84,8 @@ filling_by m block more =
     cond {A = Turned} more (Fill, record m { filled = m.filled + 1; window = with_piece m.window block m.filled })
     (Publish, record m { published = m.published + 1; filled = 0; window = with_status m.window (take 4 block); situation = Published })
 
-fills_by : (m : Machine) (block : List ℕ) (rest : List (List ℕ)) (more : Bool) → m.situation ≡ Filling → drop m.published m.blocks ≡ block ∷ rest → nat_lt m.filled (pieces block) ≡ more → turned Firmware m ≡ filling_by m block more
+fills_by : (m : Machine) (block : List ℕ) (rest : List (List ℕ)) (more : Bool) → m.situation ≡ Filling → drop m.published m.blocks ≡ block ∷ rest →
+    nat_lt m.filled (pieces block) ≡ more → turned Firmware m ≡ filling_by m block more
 fills_by m block rest more now is a = ap (firmware_turn m) now ∙ ap (offered m) is ∙ ap (filling_by m block) a
 
 turned_fill : (m : Machine) (block : List ℕ) (rest : List (List ℕ)) → m.situation ≡ Filling → drop m.published m.blocks ≡ block ∷ rest → m.filled < pieces block →
@@ -109,8 +113,12 @@ fills k m block rest now held more a =
     let x = oldest k m block rest held a in
     let e = a.filled_is in
     let few : m.filled < pieces block = omega (arith, more, e) in
-    let turn : turned Firmware m ≡ (Fill, record m { filled = m.filled + 1; window = with_piece m.window block m.filled }) = turned_fill m block rest (a.situation_is ∙ now) (offered_is k m (block ∷ rest) now held a) few in
-    next_by Firmware Fill (record k { held = block ∷ rest; waiting = length rest; filled = k.filled + 1; bytes = with_piece k.bytes block k.filled }) m (record m { filled = m.filled + 1; window = with_piece m.window block m.filled }) turn a.state (ap (λ (i : ℕ). with_piece m.window block i) (sym a.filled_is) ∙ ap (λ (w : List ℕ). with_piece w block k.filled) a.bytes_are) a.situation_is (sym held ∙ a.blocks)
+    let turn : turned Firmware m ≡ (Fill, record m { filled = m.filled + 1; window = with_piece m.window block m.filled }) =
+    turned_fill m block rest (a.situation_is ∙ now) (offered_is k m (block ∷ rest) now held a) few in
+    next_by Firmware Fill (record k { held = block ∷ rest; waiting = length rest; filled = k.filled + 1; bytes = with_piece k.bytes block k.filled }) m
+    (record m { filled = m.filled + 1; window = with_piece m.window block m.filled }) turn a.state
+    (ap (λ (i : ℕ). with_piece m.window block i) (sym a.filled_is) ∙ ap (λ (w : List ℕ). with_piece w block k.filled) a.bytes_are) a.situation_is
+    (sym held ∙ a.blocks)
     (let l = x.behind in let p = f.published in let o = one_begun m.filled in omega (arith, l, p, o)) (ap (λ (i : ℕ). i + 1) a.filled_is) a.copied_is a.last_is
 
 -- a block all of whose pieces are filled is published
@@ -122,7 +130,20 @@ publishes k m block rest now held none a =
     let e = a.filled_is in
     let turn : turned Firmware m ≡ (Publish, record m { published = m.published + 1; filled = 0; window = with_status m.window (take 4 block); situation = Published }) =
     turned_publish m block rest (a.situation_is ∙ now) (offered_is k m (block ∷ rest) now held a) (omega (arith, none, e)) in
-    next_by Firmware Publish (record k { situation = Published; held = block ∷ rest; waiting = length rest; filled = 0; bytes = with_status k.bytes (take 4 block) }) m (record m { published = m.published + 1; filled = 0; window = with_status m.window (take 4 block); situation = Published }) turn a.state (ap (λ (w : List ℕ). with_status w (take 4 block)) a.bytes_are) refl (sym held ∙ a.blocks)
+    next_by Firmware Publish (record k {
+      situation = Published;
+      held = block ∷ rest;
+      waiting = length rest;
+      filled = 0;
+      bytes =
+          with_status k.bytes (take 4 block);
+    }) m (record m {
+      published = m.published + 1;
+      filled = 0;
+      window = with_status m.window (take 4 block);
+      situation =
+          Published;
+    }) turn a.state (ap (λ (w : List ℕ). with_status w (take 4 block)) a.bytes_are) refl (sym held ∙ a.blocks)
     (let l = x.behind in let p = f.published in omega (arith, l, p)) refl a.copied_is a.last_is
 
 -- the firmware waits for an acknowledgement
@@ -135,8 +156,10 @@ pub waits : (k : Kept) (m : Machine) → (k.situation ≡ Published) ⊎ ((k.sit
 waits k m held a = same Firmware Wait k m (turned_wait m k.situation a.situation_is held) a
 
 -- a turn that changes the situation, and how many pieces are copied
-moves : (side : Side) (event : Event) (k : Kept) (m : Machine) (s : Situation) (copied : ℕ) → turned side m ≡ (event, record m { situation = s; copied = copied }) → Agrees k m → Next side event (record k { situation = s; copied = copied }) m
-moves side event k m s copied is a = next_by side event (record k { situation = s; copied = copied }) m (record m { situation = s; copied = copied }) is a.state a.bytes_are refl a.blocks a.wait a.filled_is refl a.last_is
+moves : (side : Side) (event : Event) (k : Kept) (m : Machine) (s : Situation) (copied : ℕ) →
+    turned side m ≡ (event, record m { situation = s; copied = copied }) → Agrees k m → Next side event (record k { situation = s; copied = copied }) m
+moves side event k m s copied is a = next_by side event (record k { situation = s; copied = copied }) m (record m { situation = s; copied = copied }) is a.state
+    a.bytes_are refl a.blocks a.wait a.filled_is refl a.last_is
 
 pub frees : (k : Kept) (m : Machine) → k.situation ≡ Acknowledged → Agrees k m → Next Firmware Free (record k { situation = Filling }) m
 frees k m now a =
@@ -182,7 +205,8 @@ not_past : (m : Machine) → IsReading m → 64 * m.copied < length (at_work m) 
 not_past m (inl h) more = h
 not_past m (inr h) more = absurd (let e = h.0 in omega (arith, e, more))
 
-reads_whole : (k : Kept) (m : Machine) (block : List ℕ) (rest : List (List ℕ)) → k.situation ≡ Reading → k.held ≡ block ∷ rest → 64 * k.copied < length block → Agrees k m → (m.copied < pieces (at_work m)) × IsWhole m 0
+reads_whole : (k : Kept) (m : Machine) (block : List ℕ) (rest : List (List ℕ)) → k.situation ≡ Reading → k.held ≡ block ∷ rest → 64 * k.copied < length block →
+    Agrees k m → (m.copied < pieces (at_work m)) × IsWhole m 0
 reads_whole k m block rest now held more a =
     let c = a.copied_is in
     let e : length (at_work m) ≡ length block = ap length (oldest k m block rest held a).is in
@@ -193,7 +217,8 @@ part_of_whole w block at n whole le =
     ap (λ (i : ℕ). part w i n) (sym (zero-add at)) ∙ sym (part-part w 0 (length block) at n le) ∙ ap (λ (x : List ℕ). part x at n) (part-front w (length block) ∙ whole)
 
 -- a copy of bytes goes over the same bytes
-pub copies_over : (k : Kept) (m : Machine) (block : List ℕ) (rest : List (List ℕ)) (at n : ℕ) → k.situation ≡ Reading → k.held ≡ block ∷ rest → 64 * k.copied < length block → at + n ≤ length block → Agrees k m →
+pub copies_over : (k : Kept) (m : Machine) (block : List ℕ) (rest : List (List ℕ)) (at n : ℕ) → k.situation ≡ Reading → k.held ≡ block ∷ rest →
+    64 * k.copied < length block → at + n ≤ length block → Agrees k m →
     put_at block at (part k.bytes at n) ≡ block
 copies_over k m block rest at n now held more inside a =
     let w = (oldest k m block rest held a).is in
@@ -209,27 +234,32 @@ reading_by m more some =
     cond {A = Turned} more (Copied, record m { copied = m.copied + 1 })
     (cond {A = Turned} some (Took, record m { copied = m.copied + 1; taken = m.taken + 1 }) (Clear, record m { window = with_status m.window (spelled 4 0); situation = Cleared }))
 
-reads_by : (m : Machine) (more some : Bool) → m.situation ≡ Reading → nat_lt (m.copied + 1) (pieces (at_work m)) ≡ more → nat_lt m.copied (pieces (at_work m)) ≡ some → turned Reader m ≡ reading_by m more some
+reads_by : (m : Machine) (more some : Bool) → m.situation ≡ Reading → nat_lt (m.copied + 1) (pieces (at_work m)) ≡ more → nat_lt m.copied (pieces (at_work m))
+    ≡ some → turned Reader m ≡ reading_by m more some
 reads_by m more some now a b =
     ap (reader_turn m) now ∙ ap (λ (t : Bool). reading_by m t (nat_lt m.copied (pieces (at_work m)))) a ∙ ap (reading_by m more) b
 
 turned_copied : (m : Machine) → m.situation ≡ Reading → m.copied + 1 < pieces (at_work m) → turned Reader m ≡ (Copied, record m { copied = m.copied + 1 })
 turned_copied m now more = reads_by m true (nat_lt m.copied (pieces (at_work m))) now (grind (arith, nat_tests)) refl
 
-turned_took : (m : Machine) → m.situation ≡ Reading → m.copied < pieces (at_work m) → pieces (at_work m) ≤ m.copied + 1 → turned Reader m ≡ (Took, record m { copied = m.copied + 1; taken = m.taken + 1 })
+turned_took : (m : Machine) → m.situation ≡ Reading → m.copied < pieces (at_work m) → pieces (at_work m) ≤ m.copied + 1 →
+    turned Reader m ≡ (Took, record m { copied = m.copied + 1; taken = m.taken + 1 })
 turned_took m now more last = reads_by m false true now (grind (arith, nat_tests)) (grind (arith, nat_tests))
 
 turned_clear : (m : Machine) → m.situation ≡ Reading → pieces (at_work m) ≤ m.copied → turned Reader m ≡ (Clear, record m { window = with_status m.window (spelled 4 0); situation = Cleared })
 turned_clear m now all = reads_by m false false now (grind (arith, nat_tests)) (grind (arith, nat_tests))
 
-pub copies_more : (k : Kept) (m : Machine) (block : List ℕ) (rest : List (List ℕ)) → k.situation ≡ Reading → k.held ≡ block ∷ rest → 64 * (k.copied + 1) < length block → Agrees k m → Next Reader Copied (record k { copied = k.copied + 1 }) m
+pub copies_more : (k : Kept) (m : Machine) (block : List ℕ) (rest : List (List ℕ)) → k.situation ≡ Reading → k.held ≡ block ∷ rest →
+    64 * (k.copied + 1) < length block → Agrees k m → Next Reader Copied (record k { copied = k.copied + 1 }) m
 copies_more k m block rest now held more a =
     let e : length (at_work m) ≡ length block = ap length (oldest k m block rest held a).is in
     let c = a.copied_is in
     let turn : turned Reader m ≡ (Copied, record m { copied = m.copied + 1 }) = turned_copied m (a.situation_is ∙ now) (omega (arith, more, e, c)) in
-    next_by Reader Copied (record k { copied = k.copied + 1 }) m (record m { copied = m.copied + 1 }) turn a.state a.bytes_are a.situation_is a.blocks a.wait a.filled_is (ap (λ (i : ℕ). i + 1) a.copied_is) a.last_is
+    next_by Reader Copied (record k { copied = k.copied + 1 }) m (record m { copied = m.copied + 1 }) turn a.state a.bytes_are a.situation_is a.blocks a.wait
+    a.filled_is (ap (λ (i : ℕ). i + 1) a.copied_is) a.last_is
 
-pub copies_last : (k : Kept) (m : Machine) (block : List ℕ) (rest : List (List ℕ)) → k.situation ≡ Reading → k.held ≡ block ∷ rest → 64 * k.copied < length block → length block ≤ 64 * (k.copied + 1) → Agrees k m →
+pub copies_last : (k : Kept) (m : Machine) (block : List ℕ) (rest : List (List ℕ)) → k.situation ≡ Reading → k.held ≡ block ∷ rest →
+    64 * k.copied < length block → length block ≤ 64 * (k.copied + 1) → Agrees k m →
     Next Reader Took (record k { copied = k.copied + 1; last = block }) m
 copies_last k m block rest now held more all a =
     let w = (oldest k m block rest held a).is in
@@ -239,7 +269,8 @@ copies_last k m block rest now held more all a =
     let t = x.1.taken_is in
     let one : m.taken + 1 ≡ suc m.acknowledged = omega (arith, t) in
     let turn : turned Reader m ≡ (Took, record m { copied = m.copied + 1; taken = m.taken + 1 }) = turned_took m (a.situation_is ∙ now) x.0 (omega (arith, all, e, c)) in
-    next_by Reader Took (record k { copied = k.copied + 1; last = block }) m (record m { copied = m.copied + 1; taken = m.taken + 1 }) turn a.state a.bytes_are a.situation_is a.blocks a.wait a.filled_is (ap (λ (i : ℕ). i + 1) a.copied_is)
+    next_by Reader Took (record k { copied = k.copied + 1; last = block }) m (record m { copied = m.copied + 1; taken = m.taken + 1 }) turn a.state a.bytes_are
+    a.situation_is a.blocks a.wait a.filled_is (ap (λ (i : ℕ). i + 1) a.copied_is)
     (sym w ∙ sym (ap (λ (k : ℕ). get_or ([] ∷ m.blocks) k []) one))
 
 pub clears : (k : Kept) (m : Machine) (block : List ℕ) (rest : List (List ℕ)) → k.situation ≡ Reading → k.held ≡ block ∷ rest → length block ≤ 64 * k.copied → Agrees k m →
@@ -248,9 +279,13 @@ clears k m block rest now held all a =
     let e : length (at_work m) ≡ length block = ap length (oldest k m block rest held a).is in
     let c = a.copied_is in
     let turn : turned Reader m ≡ (Clear, record m { window = with_status m.window (spelled 4 0); situation = Cleared }) = turned_clear m (a.situation_is ∙ now) (omega (arith, all, e, c)) in
-    next_by Reader Clear (record k { situation = Cleared; bytes = with_status k.bytes (spelled 4 0) }) m (record m { window = with_status m.window (spelled 4 0); situation = Cleared }) turn a.state (ap (λ (w : List ℕ). with_status w (spelled 4 0)) a.bytes_are) refl a.blocks a.wait a.filled_is a.copied_is a.last_is
+    next_by Reader Clear (record k { situation = Cleared; bytes = with_status k.bytes (spelled 4 0) }) m
+    (record m { window = with_status m.window (spelled 4 0); situation = Cleared }) turn a.state (ap (λ (w : List ℕ). with_status w (spelled 4 0))
+    a.bytes_are) refl a.blocks a.wait a.filled_is a.copied_is a.last_is
 
-pub acknowledges : (k : Kept) (m : Machine) (block : List ℕ) (rest : List (List ℕ)) → k.situation ≡ Cleared → k.held ≡ block ∷ rest → Agrees k m → Next Reader Ack (record k { situation = Acknowledged; held = rest }) m
+pub acknowledges : (k : Kept) (m : Machine) (block : List ℕ) (rest : List (List ℕ)) → k.situation ≡ Cleared → k.held ≡ block ∷ rest → Agrees k m →
+    Next Reader Ack (record k { situation = Acknowledged; held = rest }) m
 acknowledges k m block rest now held a =
     let turn : turned Reader m ≡ (Ack, record m { acknowledged = m.acknowledged + 1; situation = Acknowledged }) = ap (reader_turn m) (a.situation_is ∙ now) in
-    next_by Reader Ack (record k { situation = Acknowledged; held = rest }) m (record m { acknowledged = m.acknowledged + 1; situation = Acknowledged }) turn a.state a.bytes_are refl (ap (drop 1) (sym held ∙ a.blocks) ∙ drop-drop 1 m.acknowledged m.blocks) a.wait a.filled_is a.copied_is a.last_is
+    next_by Reader Ack (record k { situation = Acknowledged; held = rest }) m (record m { acknowledged = m.acknowledged + 1; situation = Acknowledged }) turn
+    a.state a.bytes_are refl (ap (drop 1) (sym held ∙ a.blocks) ∙ drop-drop 1 m.acknowledged m.blocks) a.wait a.filled_is a.copied_is a.last_is

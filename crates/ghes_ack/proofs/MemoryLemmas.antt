@@ -51,7 +51,8 @@ pub has_block_at : (map : HandoverMap) (at : BlockWindow) (ram : RamState) → a
 has_block_at map at ram is w = subst (λ (x : BlockWindow). HasBlock x ram) (sym is) (has_block map ram w)
 
 -- a write of it
-pub by_window : (map : HandoverMap) (at : BlockWindow) (ram new : RamState) (f : List ℕ → List ℕ) → at ≡ window_of map → new ≡ with_block at ram (f (block_bytes at ram)) → new ≡ with_window map ram (f (window map ram))
+pub by_window : (map : HandoverMap) (at : BlockWindow) (ram new : RamState) (f : List ℕ → List ℕ) → at ≡ window_of map →
+    new ≡ with_block at ram (f (block_bytes at ram)) → new ≡ with_window map ram (f (window map ram))
 by_window map at ram new f is e = subst (λ (x : BlockWindow). new ≡ with_block x ram (f (block_bytes x ram))) is e
 
 addressed : (map : HandoverMap) (ram : RamState) → HasWindows map ram → HasAddressed map.status (window_of map) ram
@@ -78,18 +79,22 @@ window-with_window map ram bytes w n = address.window-with_window map.status (wi
 
 pub ack-with_window : (map : HandoverMap) (ram : RamState) (bytes : List ℕ) → HasWindows map ram → length bytes ≡ map.len → ack_read map (with_window map ram bytes) ≡ ack_read map ram
 ack-with_window map ram bytes w n =
-    ap little (mapped_apart ram (Memory map.block) map.len bytes map.ack.place (ack_bytes map) w.fills w.block (block_some map ram w) n w.ack (ack_some map) (disjoint_sym map.ack.place (ack_bytes map) (Memory map.block) map.len w.ack_block))
+    ap little (mapped_apart ram (Memory map.block) map.len bytes map.ack.place (ack_bytes map) w.fills w.block (block_some map ram w) n w.ack (ack_some map)
+    (disjoint_sym map.ack.place (ack_bytes map) (Memory map.block) map.len w.ack_block))
 
-pub address-with_window : (map : HandoverMap) (ram : RamState) (bytes : List ℕ) → HasWindows map ram → length bytes ≡ map.len → address_at map.status (with_window map ram bytes) ≡ address_at map.status ram
+pub address-with_window : (map : HandoverMap) (ram : RamState) (bytes : List ℕ) → HasWindows map ram → length bytes ≡ map.len →
+    address_at map.status (with_window map ram bytes) ≡ address_at map.status ram
 address-with_window map ram bytes w n = address.address-with_window map.status (window_of map) ram bytes (addressed map ram w) n
 
 pub window-with_ack : (map : HandoverMap) (ram : RamState) (x : ℕ) → HasWindows map ram → window map (with_ack map ram x) ≡ window map ram
 window-with_ack map ram x w =
-    mapped_apart ram map.ack.place (ack_bytes map) (spelled (ack_bytes map) x) (Memory map.block) map.len w.fills w.ack (ack_some map) (length-spelled (ack_bytes map) x) w.block (block_some map ram w) w.ack_block
+    mapped_apart ram map.ack.place (ack_bytes map) (spelled (ack_bytes map) x) (Memory map.block) map.len w.fills w.ack (ack_some map)
+    (length-spelled (ack_bytes map) x) w.block (block_some map ram w) w.ack_block
 
 pub address-with_ack : (map : HandoverMap) (ram : RamState) (x : ℕ) → HasWindows map ram → address_at map.status (with_ack map ram x) ≡ address_at map.status ram
 address-with_ack map ram x w =
-    ap little (mapped_apart ram map.ack.place (ack_bytes map) (spelled (ack_bytes map) x) (Memory map.status) 8 w.fills w.ack (ack_some map) (length-spelled (ack_bytes map) x) w.status (omega arith) (disjoint_sym (Memory map.status) 8 map.ack.place (ack_bytes map) w.status_ack))
+    ap little (mapped_apart ram map.ack.place (ack_bytes map) (spelled (ack_bytes map) x) (Memory map.status) 8 w.fills w.ack (ack_some map)
+    (length-spelled (ack_bytes map) x) w.status (omega arith) (disjoint_sym (Memory map.status) 8 map.ack.place (ack_bytes map) w.status_ack))
 
 pub window-with_address : (map : HandoverMap) (ram : RamState) → HasWindows map ram → window map (with_address map ram) ≡ window map ram
 window-with_address map ram w = address.window-with_address map.status (window_of map) ram (addressed map ram w)
@@ -107,7 +112,8 @@ ack-with_ack map ram x w small =
     ap little (mapped_back ram map.ack.place (ack_bytes map) (spelled (ack_bytes map) x) w.fills w.ack (ack_some map) (length-spelled (ack_bytes map) x)) ∙ little-spelled (ack_bytes map) x low
 
 -- a store of as many bytes keeps the windows
-windows-stored : (map : HandoverMap) (ram : RamState) (at : Place) (n s : ℕ) (bytes : List ℕ) → HasWindows map ram → IsPlaced ram.windows at n s → length bytes ≡ n → HasWindows map (stored (located ram.windows at n) ram bytes)
+windows-stored : (map : HandoverMap) (ram : RamState) (at : Place) (n s : ℕ) (bytes : List ℕ) → HasWindows map ram → IsPlaced ram.windows at n s →
+    length bytes ≡ n → HasWindows map (stored (located ram.windows at n) ram bytes)
 windows-stored map ram at n s bytes w p is =
     let fits = fits_in ram at n s w.fills p in
     subst (HasWindows map) (sym (stored_placed ram at n s bytes p)) (record {
@@ -144,15 +150,19 @@ clear_bits map ram w small =
     let back = ack-with_ack map ram (with_clear map (ack_read map ram)) w (omega (arith, le, small)) in
     ap (λ (x : ℕ). bit_and x (ack_mask map)) back ∙ and-not_self (ack_read map ram) (2 ^ 64 - 1) (ack_mask map) (ack_mask map) refl (omega arith) refl
 
-pub acknowledged_bits : (map : HandoverMap) (ram : RamState) → HasWindows map ram → ack_read map ram < 2 ^ bits map.ack.access → HasAckBits map → IsSet map (with_ack map ram (acknowledged map (ack_read map ram)))
+pub acknowledged_bits : (map : HandoverMap) (ram : RamState) → HasWindows map ram → ack_read map ram < 2 ^ bits map.ack.access → HasAckBits map →
+    IsSet map (with_ack map ram (acknowledged map (ack_read map ram)))
 acknowledged_bits map ram w small sound =
     let le = and_le_l (ack_read map ram) (map.preserve * 2 ^ map.ack.offset % 2 ^ 64) in
-    let low : acknowledged map (ack_read map ram) < 2 ^ bits map.ack.access = or_lt (bits map.ack.access) (bit_and (ack_read map ram) (map.preserve * 2 ^ map.ack.offset % 2 ^ 64)) (ack_mask map) (omega (arith, le, small)) (mask_small map sound) in
+    let low : acknowledged map (ack_read map ram) < 2 ^ bits map.ack.access =
+    or_lt (bits map.ack.access) (bit_and (ack_read map ram) (map.preserve * 2 ^ map.ack.offset % 2 ^ 64)) (ack_mask map) (omega (arith, le, small))
+    (mask_small map sound) in
     let back = ack-with_ack map ram (acknowledged map (ack_read map ram)) w low in
     ap (λ (x : ℕ). bit_and x (ack_mask map)) back ∙ and_or_self (ack_mask map) (bit_and (ack_read map ram) (map.preserve * 2 ^ map.ack.offset % 2 ^ 64))
 
 -- the acknowledge bits are set at a start
-pub set_bits : (map : HandoverMap) (ram : RamState) → HasWindows map ram → ack_read map ram < 2 ^ bits map.ack.access → HasAckBits map → IsSet map (with_ack map ram (bit_or (ack_read map ram) (ack_mask map)))
+pub set_bits : (map : HandoverMap) (ram : RamState) → HasWindows map ram → ack_read map ram < 2 ^ bits map.ack.access → HasAckBits map →
+    IsSet map (with_ack map ram (bit_or (ack_read map ram) (ack_mask map)))
 set_bits map ram w small sound =
     let low : bit_or (ack_read map ram) (ack_mask map) < 2 ^ bits map.ack.access = or_lt (bits map.ack.access) (ack_read map ram) (ack_mask map) small (mask_small map sound) in
     let back = ack-with_ack map ram (bit_or (ack_read map ram) (ack_mask map)) w low in

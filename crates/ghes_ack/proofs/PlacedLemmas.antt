@@ -58,7 +58,8 @@ held_ends (first ∷ windows) at apart (inr later) = held_ends windows at apart.
 pub bytes_placed : (ram : RamState) (at : Place) (n s : ℕ) → IsPlaced ram.windows at n s → bytes_at ram at n ≡ part ram.bytes s n
 bytes_placed ram at n s p = ap (λ (r : Result ℕ SpaceFault). bytes_in r ram.bytes n) p.found_at
 
-pub stored_placed : (ram : RamState) (at : Place) (n s : ℕ) (bytes : List ℕ) → IsPlaced ram.windows at n s → stored (located ram.windows at n) ram bytes ≡ record ram { bytes = put_at ram.bytes s bytes }
+pub stored_placed : (ram : RamState) (at : Place) (n s : ℕ) (bytes : List ℕ) → IsPlaced ram.windows at n s → stored (located ram.windows at n) ram bytes
+    ≡ record ram { bytes = put_at ram.bytes s bytes }
 stored_placed ram at n s bytes p = ap (λ (r : Result ℕ SpaceFault). stored r ram bytes) p.found_at
 
 pub fits_in : (ram : RamState) (at : Place) (n s : ℕ) → FillsWindows ram → IsPlaced ram.windows at n s → s + n ≤ length ram.bytes
@@ -103,7 +104,8 @@ disjoint_sym (Memory a) n (Io b) m d = tt
 disjoint_sym (Io a) n (Memory b) m d = tt
 
 -- the same of bytes that are mapped
-pub mapped_back : (ram : RamState) (at : Place) (n : ℕ) (bytes : List ℕ) → FillsWindows ram → AreMapped ram.windows at n → 0 < n → length bytes ≡ n → bytes_at (stored (located ram.windows at n) ram bytes) at n ≡ bytes
+pub mapped_back : (ram : RamState) (at : Place) (n : ℕ) (bytes : List ℕ) → FillsWindows ram → AreMapped ram.windows at n → 0 < n → length bytes ≡ n →
+    bytes_at (stored (located ram.windows at n) ram bytes) at n ≡ bytes
 mapped_back ram at n bytes fills here some is = let p = placed ram.windows at n fills.apart some here in bytes-stored ram at n p.0 bytes fills p.1 is
 
 pub mapped_apart : (ram : RamState) (at : Place) (n : ℕ) (bytes : List ℕ) (other : Place) (m : ℕ) → FillsWindows ram → AreMapped ram.windows at n → 0 < n → length bytes ≡ n →

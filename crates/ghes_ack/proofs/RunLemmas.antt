@@ -20,7 +20,8 @@ use Rattle.ghes_ack.proofs.TurnLemmas.{next_fits, written_only, fills, copies_mo
 use Rattle.ghes_ack.proofs.ElsewhereLemmas.{SameWhere-refl, SameWhere-then, elsewhere_left}
 
 -- one turn is a run
-pub run_one : (side : Side) (event : Event) (h after : HandoverState) (ram memory : RamState) (m : Machine) → Turns side event (over h ram) (over after memory) m → Runs side (event ∷ []) (over h ram) (over after memory) m
+pub run_one : (side : Side) (event : Event) (h after : HandoverState) (ram memory : RamState) (m : Machine) → Turns side event (over h ram) (over after memory)
+    m → Runs side (event ∷ []) (over h ram) (over after memory) m
 run_one side event h after ram memory m t = record {
   turned = record { events_are = ap (λ (e : Event). e ∷ []) t.turned.event_is; stands = t.turned.stands };
   map = t.map;
@@ -40,7 +41,8 @@ taken_noted n events rest some is =
     ∙ take_at (replicate (n - 1) Copied ++ Took ∷ []) rest n (omega (arith, l, r, some))
 
 -- the firmware fills one piece more than n, one after another
-pub fills_run : (n : ℕ) (h : HandoverState) (ram new : RamState) (m : Machine) (block : List ℕ) (rest : List (List ℕ)) → h.situation ≡ Filling → kept h ≡ block ∷ rest → 64 * (h.filled + n) < length block →
+pub fills_run : (n : ℕ) (h : HandoverState) (ram new : RamState) (m : Machine) (block : List ℕ) (rest : List (List ℕ)) → h.situation ≡ Filling →
+    kept h ≡ block ∷ rest → 64 * (h.filled + n) < length block →
     new ≡ with_window h.map ram (with_pieces (window h.map ram) block h.filled (suc n)) → StandsFor h ram m →
     Runs Firmware (replicate (suc n) Fill) (over h ram) (over (record h { waiting = rest; at_work = Some block; filled = h.filled + suc n }) new) m
 fills_run zero h ram new m block rest now held more memory st =
@@ -52,12 +54,15 @@ fills_run (suc n) h ram new m block rest now held more memory st =
     let first : List ℕ = with_piece (window h.map ram) block h.filled in
     let all : List ℕ = with_pieces (window h.map ram) block h.filled (suc (suc n)) in
     let wide : length (with_piece (window h.map ram) block h.filled) ≡ h.map.len = length-with_piece (window h.map ram) block h.filled (omega (arith, fits, l)) (omega (arith, more)) ∙ l in
-    let long : length (with_pieces (window h.map ram) block h.filled (suc (suc n))) ≡ h.map.len = length-with_pieces (window h.map ram) block h.filled (suc (suc n)) (omega (arith, fits, l)) (omega (arith, more)) ∙ l in
+    let long : length (with_pieces (window h.map ram) block h.filled (suc (suc n))) ≡ h.map.len = length-with_pieces (window h.map ram) block h.filled
+    (suc (suc n)) (omega (arith, fits, l)) (omega (arith, more)) ∙ l in
     let ram1 : RamState = with_window h.map ram first in
     let t = fills h ram (with_window h.map ram (with_piece (window h.map ram) block h.filled)) m block rest now held (omega (arith, more)) refl st in
     let mid : HandoverState = record h { waiting = rest; at_work = Some block; filled = h.filled + 1 } in
-    let seen : window h.map (with_window h.map ram (with_piece (window h.map ram) block h.filled)) ≡ with_piece (window h.map ram) block h.filled = window-with_window h.map ram (with_piece (window h.map ram) block h.filled) w wide in
-    let joined : with_pieces (window h.map (with_window h.map ram (with_piece (window h.map ram) block h.filled))) block (h.filled + 1) (suc n) ≡ with_pieces (window h.map ram) block h.filled (suc (suc n)) =
+    let seen : window h.map (with_window h.map ram (with_piece (window h.map ram) block h.filled)) ≡ with_piece (window h.map ram) block h.filled =
+    window-with_window h.map ram (with_piece (window h.map ram) block h.filled) w wide in
+    let joined : with_pieces (window h.map (with_window h.map ram (with_piece (window h.map ram) block h.filled))) block (h.filled + 1) (suc n) ≡ with_pieces
+    (window h.map ram) block h.filled (suc (suc n)) =
     ap (λ (v : List ℕ). with_pieces v block (h.filled + 1) (suc n)) seen ∙ pieces_next (window h.map ram) block h.filled (suc n) (omega (arith, fits, l)) (omega (arith, more)) in
     let later : new ≡ with_window h.map ram1 (with_pieces (window h.map ram1) block (h.filled + 1) (suc n)) =
     memory ∙ sym (block_twice (window_of h.map) ram (with_piece (window h.map ram) block h.filled) (with_pieces (window h.map ram) block h.filled (suc (suc n))) (has_block h.map ram w) wide long)
@@ -90,7 +95,8 @@ copies_run (suc n) h ram m block now is more st =
     }
 
 -- and then the last
-pub takes_run : (n : ℕ) (h : HandoverState) (ram : RamState) (m : Machine) (block : List ℕ) → h.situation ≡ Reading → h.at_work ≡ Some block → 64 * (h.copied + n) < length block → length block ≤ 64 * (h.copied + suc n) → StandsFor h ram m →
+pub takes_run : (n : ℕ) (h : HandoverState) (ram : RamState) (m : Machine) (block : List ℕ) → h.situation ≡ Reading → h.at_work ≡ Some block →
+    64 * (h.copied + n) < length block → length block ≤ 64 * (h.copied + suc n) → StandsFor h ram m →
     AreTurned Reader (suc n) (replicate n Copied ++ Took ∷ []) (record h { copied = h.copied + suc n; last = block }) ram m
 takes_run zero h ram m block now is more all st =
     let t = copies_last h ram m block now is (omega (arith, more)) all st in
@@ -139,7 +145,8 @@ events_more side (suc a) b m =
 pub no_turns : (side : Side) (h : HandoverState) (ram : RamState) (m : Machine) → StandsFor h ram m → MakesTurns side [] (over h ram) (over h ram) m
 no_turns side h ram m st = record { turned = record { events_are = refl; stands = st }; map = refl; left = refl; elsewhere = SameWhere-refl (IsOffBlock h.map) ram }
 
-pub turns_then : (side : Side) (first others : List Event) (h between after : HandoverState) (ram memory new : RamState) (m : Machine) → StandsFor h ram m → MakesTurns side first (over h ram) (over between memory) m →
+pub turns_then : (side : Side) (first others : List Event) (h between after : HandoverState) (ram memory new : RamState) (m : Machine) → StandsFor h ram m →
+    MakesTurns side first (over h ram) (over between memory) m →
     Runs side others (over between memory) (over after new) (turned_times side (length first) m) → MakesTurns side (first ++ others) (over h ram) (over after new) m
 turns_then side first others h between after ram memory new m st a b =
     let n = length-append first others in

@@ -7,7 +7,8 @@ use Rattle.ghes_ack.specs.declared.events.Side.{Side}
 use Rattle.ghes_ack.specs.declared.events.Side.TheVariants.{Firmware, Reader}
 use Rattle.ghes_ack.specs.declared.events.Event.{Event}
 use Rattle.ghes_ack.specs.declared.events.Event.TheVariants.{Idle, Fill, Publish, Free, Wait, Nothing, Found, Copied, Took, Clear, Ack}
-use Rattle.ghes_ack.specs.Machine.{Machine, Situation, Filling, Published, Reading, Cleared, Acknowledged, at_work, pieces, filling, firmware_turn, reader_turn, turned, submitted, IsWhole, InSituation, IsState}
+use Rattle.ghes_ack.specs.Machine.{Machine, Situation, Filling, Published, Reading, Cleared, Acknowledged, at_work, pieces, filling, firmware_turn, reader_turn}
+use Rattle.ghes_ack.specs.Machine.{turned, submitted, IsWhole, InSituation, IsState}
 use Rattle.ghes_ack.proofs.Terms.{IsReading}
 use Rattle.ghes_ack.proofs.Terms.{offered}
 use Rattle.ghes_ack.proofs.Terms.{reading}
@@ -77,12 +78,44 @@ turn_seen len w Reader st h = reader_seen w w.machine.situation refl st.holds h
 
 -- the numbers are in order
 in_order : (m : Machine) (s : Situation) → InSituation m s → AreInOrder m
-in_order m Filling h = let p = h.published in let t = h.taken in let a = h.all in record { acknowledged = omega (arith, t); taken = omega (arith, p, t); published = omega (arith, p); submitted = omega (arith, p, a) }
-in_order m Published h = let p = h.published in let t = h.taken_is in let a = h.there in record { acknowledged = omega (arith, t); taken = omega (arith, p, t); published = omega (arith, p); submitted = omega (arith, p, a) }
-in_order m Reading (inl h) = let p = h.1.published in let t = h.1.taken_is in let a = h.1.there in record { acknowledged = omega (arith, t); taken = omega (arith, p, t); published = omega (arith, p); submitted = omega (arith, p, a) }
-in_order m Reading (inr h) = let p = h.1.published in let t = h.1.taken_is in let a = h.1.there in record { acknowledged = omega (arith, t); taken = omega (arith, p, t); published = omega (arith, p); submitted = omega (arith, p, a) }
-in_order m Cleared h = let p = h.published in let t = h.taken in let a = h.all in record { acknowledged = omega (arith, t); taken = omega (arith, p, t); published = omega (arith, p); submitted = omega (arith, p, a) }
-in_order m Acknowledged h = let p = h.published in let t = h.taken in let a = h.all in record { acknowledged = omega (arith, t); taken = omega (arith, p, t); published = omega (arith, p); submitted = omega (arith, p, a) }
+in_order m Filling h = let p = h.published in let t = h.taken in let a = h.all in record {
+  acknowledged = omega (arith, t);
+  taken = omega (arith, p, t);
+  published = omega (arith, p);
+  submitted = omega (arith, p, a);
+}
+in_order m Published h = let p = h.published in let t = h.taken_is in let a = h.there in record {
+  acknowledged = omega (arith, t);
+  taken = omega (arith, p, t);
+  published = omega (arith, p);
+  submitted = omega (arith, p, a);
+}
+in_order m Reading (inl h) = let p = h.1.published in let t = h.1.taken_is in let a = h.1.there in record {
+  acknowledged = omega (arith, t);
+  taken =
+      omega (arith, p, t);
+  published = omega (arith, p);
+  submitted = omega (arith, p, a);
+}
+in_order m Reading (inr h) = let p = h.1.published in let t = h.1.taken_is in let a = h.1.there in record {
+  acknowledged = omega (arith, t);
+  taken =
+      omega (arith, p, t);
+  published = omega (arith, p);
+  submitted = omega (arith, p, a);
+}
+in_order m Cleared h = let p = h.published in let t = h.taken in let a = h.all in record {
+  acknowledged = omega (arith, t);
+  taken = omega (arith, p, t);
+  published = omega (arith, p);
+  submitted = omega (arith, p, a);
+}
+in_order m Acknowledged h = let p = h.published in let t = h.taken in let a = h.all in record {
+  acknowledged = omega (arith, t);
+  taken = omega (arith, p, t);
+  published = omega (arith, p);
+  submitted = omega (arith, p, a);
+}
 
 pub state_in_order : (len : ℕ) (m : Machine) → IsState len m → AreInOrder m
 state_in_order len m st = in_order m m.situation st.holds

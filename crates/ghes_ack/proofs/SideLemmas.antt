@@ -1,5 +1,6 @@
 -- Turns of each side by its own end, its blocks and the memory alone.
-use Rattle.std.proofs.Common.{◌≡◌, ◌∙◌, ℕ, zero, suc, ◌+◌, ◌-◌, ◌*◌, ◌<◌, ◌≤◌, min, List, [], replicate, ◌∷◌, ◌++◌, length, take, map, get_or, All, Vec, Option, Some, None, option_to_list, refl, sym, ap, subst, arith}
+use Rattle.std.proofs.Common.{◌≡◌, ◌∙◌, ℕ, zero, suc, ◌+◌, ◌-◌, ◌*◌, ◌<◌, ◌≤◌, min, List, [], replicate, ◌∷◌, ◌++◌, length, take, map, get_or, All, Vec, Option}
+use Rattle.std.proofs.Common.{Some, None, option_to_list, refl, sym, ap, subst, arith}
 use Rattle.std.specs.declared.alloc.Global.{Global}
 use Rattle.std.specs.Vec.{with_items}
 use Rattle.std.proofs.lemmas.List.{with_items_is}
@@ -48,7 +49,8 @@ pub writes_run : (end after : FirmwareEnd) (write : MayWrite) (old new : Blocks 
 writes_run end after write old new ram memory events is made = subst (λ (e : FirmwareEnd). FirmwareRuns e (over old ram) events after (over new memory)) (sym is) made
 
 -- there is none
-none_held : (work : Option (Vec ℕ Global)) (last : Vec ℕ Global) (waiting : List (List ℕ)) → option_to_list (in_work Filling work last) ++ waiting ≡ [] → (in_work Filling work last ≡ None) × (waiting ≡ [])
+none_held : (work : Option (Vec ℕ Global)) (last : Vec ℕ Global) (waiting : List (List ℕ)) → option_to_list (in_work Filling work last) ++ waiting ≡ [] →
+    (in_work Filling work last ≡ None) × (waiting ≡ [])
 none_held None last waiting is = (refl, is)
 none_held (Some block) last waiting is = absurd cc
 
@@ -65,11 +67,13 @@ none_in_hand b t none =
     let last : t.last.items ≡ b.last.items = ap (λ v. v.items) none.same.last in
     cc
 
-pub idles_at : (b t : Blocks HandoverMap) (ram : RamState) (events rest : List Event) → HoldsNone window_of b t → events ≡ replicate 1 Idle ++ rest → FirmwareMakes (state_of Filling b) ram (take 1 events) (state_of Filling t) ram
+pub idles_at : (b t : Blocks HandoverMap) (ram : RamState) (events rest : List Event) → HoldsNone window_of b t → events ≡ replicate 1 Idle ++ rest →
+    FirmwareMakes (state_of Filling b) ram (take 1 events) (state_of Filling t) ram
 idles_at b t ram events rest none is_noted = Idles none.held (noted 1 Idle events rest is_noted) (none_in_hand b t none) refl
 
 -- the next pieces are filled
-pub fills_at : (count : ℕ) (b t : Blocks HandoverMap) (block : Vec ℕ Global) (bytes : List ℕ) (ram new : RamState) (events rest : List Event) → TakesOut window_of b t block → bytes ≡ block.items → 0 < count → 64 * (t.filled + count) < length block.items + 64 →
+pub fills_at : (count : ℕ) (b t : Blocks HandoverMap) (block : Vec ℕ Global) (bytes : List ℕ) (ram new : RamState) (events rest : List Event) →
+    TakesOut window_of b t block → bytes ≡ block.items → 0 < count → 64 * (t.filled + count) < length block.items + 64 →
     new ≡ with_window t.map ram (with_pieces (window t.map ram) bytes t.filled count) → events ≡ replicate count Fill ++ rest →
     FirmwareMakes (state_of Filling b) ram (take count events) (state_of Filling (record t { at_work = Some block; filled = t.filled + count })) new
 fills_at zero b t block bytes ram new events rest out is some more memory is_noted = absurd (omega (arith, some))
@@ -98,7 +102,8 @@ fills_next b block bytes ram new some is more memory =
     (memory ∙ ap (λ (x : List ℕ). with_window b.map ram (with_piece (window b.map ram) x b.filled)) is)
 
 -- a block all of whose pieces are filled is published
-pub publishes_at : (b t : Blocks HandoverMap) (block : Vec ℕ Global) (bytes : List ℕ) (ram new : RamState) (events rest : List Event) → TakesOut window_of b t block → bytes ≡ block.items → length block.items ≤ 64 * t.filled →
+pub publishes_at : (b t : Blocks HandoverMap) (block : Vec ℕ Global) (bytes : List ℕ) (ram new : RamState) (events rest : List Event) →
+    TakesOut window_of b t block → bytes ≡ block.items → length block.items ≤ 64 * t.filled →
     new ≡ with_window t.map (with_ack t.map ram (with_clear t.map (ack_read t.map ram))) (with_status (window t.map ram) (take 4 bytes)) → IsClear t.map new → events ≡ replicate 1 Publish ++ rest →
     FirmwareMakes (state_of Filling b) ram (take 1 events) (state_of Published (record t { at_work = Some block; filled = 0 })) new
 publishes_at b t block bytes ram new events rest out is none memory clear is_noted =
@@ -120,11 +125,14 @@ none_copied b block some head =
 
 -- the block over which pieces were copied
 copied_items : (p : ℕ) (b : Blocks HandoverMap) (block : Vec ℕ Global) (bytes copied : List ℕ) (ram : RamState) → bytes ≡ block.items →
-    copied ≡ put_at bytes (64 * b.copied) (part (window b.map ram) (64 * b.copied) (min (64 * p) (length bytes - 64 * b.copied))) → length copied ≡ block.len → (with_items block copied).items ≡ read_over b.map ram block.items b.copied p
+    copied ≡ put_at bytes (64 * b.copied) (part (window b.map ram) (64 * b.copied) (min (64 * p) (length bytes - 64 * b.copied))) → length copied ≡ block.len →
+    (with_items block copied).items ≡ read_over b.map ram block.items b.copied p
 copied_items p b block bytes copied ram is memory long = with_items_is block copied long ∙ memory ∙ ap (λ (x : List ℕ). read_over b.map ram x b.copied p) is
 
-pub copies_at : (count : ℕ) (b : Blocks HandoverMap) (block : Vec ℕ Global) (bytes copied : List ℕ) (ram : RamState) (events rest : List Event) → b.at_work ≡ Some block → bytes ≡ block.items → 64 * (b.copied + count) < length block.items →
-    copied ≡ put_at bytes (64 * b.copied) (part (window b.map ram) (64 * b.copied) (min (64 * count) (length bytes - 64 * b.copied))) → length copied ≡ block.len → events ≡ replicate count Copied ++ rest →
+pub copies_at : (count : ℕ) (b : Blocks HandoverMap) (block : Vec ℕ Global) (bytes copied : List ℕ) (ram : RamState) (events rest : List Event) →
+    b.at_work ≡ Some block → bytes ≡ block.items → 64 * (b.copied + count) < length block.items →
+    copied ≡ put_at bytes (64 * b.copied) (part (window b.map ram) (64 * b.copied) (min (64 * count) (length bytes - 64 * b.copied))) →
+    length copied ≡ block.len → events ≡ replicate count Copied ++ rest →
     ReaderMakes (state_of Reading b) ram (take count events) (state_of Reading (record b { at_work = Some (with_items block copied); copied = b.copied + count })) ram
 copies_at count b block bytes copied ram events rest some is more memory long is_noted =
     let work : in_work Reading b.at_work b.last ≡ Some block.items = ap (λ (o : Option (Vec ℕ Global)). in_work Reading o b.last) some in
@@ -136,7 +144,8 @@ pub copies_next : (b : Blocks HandoverMap) (block : Vec ℕ Global) (bytes copie
     ReaderMakes (state_of Reading b) ram (Copied ∷ []) (state_of Reading (record b { at_work = Some (with_items block copied); copied = b.copied + 1 })) ram
 copies_next b block bytes copied ram some is more memory long = copies_at 1 b block bytes copied ram (Copied ∷ []) [] some is more memory long refl
 
-pub takes_at : (count : ℕ) (b after : Blocks HandoverMap) (block : Vec ℕ Global) (bytes copied : List ℕ) (ram : RamState) (events rest : List Event) → 0 < count → b.at_work ≡ Some block → bytes ≡ block.items →
+pub takes_at : (count : ℕ) (b after : Blocks HandoverMap) (block : Vec ℕ Global) (bytes copied : List ℕ) (ram : RamState) (events rest : List Event) →
+    0 < count → b.at_work ≡ Some block → bytes ≡ block.items →
     64 * (b.copied + count) < length block.items + 64 → length block.items ≤ 64 * (b.copied + count) →
     copied ≡ put_at bytes (64 * b.copied) (part (window b.map ram) (64 * b.copied) (min (64 * count) (length bytes - 64 * b.copied))) → length copied ≡ block.len →
     events ≡ replicate (count - 1) Copied ++ Took ∷ rest → after ≡ record b { at_work = None; copied = b.copied + count; last = with_items block copied; spare = after.spare } →
@@ -146,11 +155,13 @@ takes_at (suc n) b after block bytes copied ram events rest positive some is mor
     let e : suc n - 1 ≡ n = omega arith in
     let work : in_work Reading b.at_work b.last ≡ Some block.items = ap (λ (o : Option (Vec ℕ Global)). in_work Reading o b.last) some in
     Takes n block.items work (omega (arith, more)) all (taken_noted (suc n) events rest positive is_noted ∙ ap (λ (k : ℕ). replicate k Copied ++ Took ∷ []) e)
-    (ap (state_of Reading) is_after ∙ ap (λ (x : List ℕ). record (state_of Reading b) { at_work = Some x; copied = b.copied + suc n; last = x }) (copied_items (suc n) b block bytes copied ram is memory long)) refl
+    (ap (state_of Reading) is_after ∙ ap (λ (x : List ℕ). record (state_of Reading b) { at_work = Some x; copied = b.copied + suc n; last = x })
+    (copied_items (suc n) b block bytes copied ram is memory long)) refl
 
 -- all pieces are copied
 pub clears_at : (b : Blocks HandoverMap) (rest : Option (Vec ℕ Global)) (ram new : RamState) (events others : List Event) → b.at_work ≡ None → rest ≡ None → IsCopiedSoFar b.copied b.at_work b.last →
-    new ≡ with_window b.map ram (with_status (window b.map ram) (spelled 4 0)) → events ≡ replicate 1 Clear ++ others → ReaderMakes (state_of Reading b) ram (take 1 events) (state_of Cleared (record b { at_work = rest })) new
+    new ≡ with_window b.map ram (with_status (window b.map ram) (spelled 4 0)) → events ≡ replicate 1 Clear ++ others → ReaderMakes (state_of Reading b) ram
+    (take 1 events) (state_of Cleared (record b { at_work = rest })) new
 clears_at b rest ram new events others none gone far memory is_noted =
     let work : in_work Reading b.at_work b.last ≡ Some b.last.items = ap (λ (o : Option (Vec ℕ Global)). in_work Reading o b.last) none in
     let after : in_work Cleared rest b.last ≡ Some b.last.items = ap (λ (o : Option (Vec ℕ Global)). in_work Cleared o b.last) gone in

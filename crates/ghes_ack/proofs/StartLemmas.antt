@@ -1,5 +1,6 @@
 -- A start and a submission.
-use Rattle.std.proofs.Common.{◌≡◌, ◌∙◌, ℕ, ◌+◌, ◌-◌, ◌<◌, ◌≤◌, ◌⊎◌, inl, inr, nat_lt, ◌==◌, cond, Bool, true, false, List, [], ◌∷◌, ◌++◌, length, map, Option, Some, None, option_to_list, Result, Ok, Vec, refl, sym, ap, subst, arith, append_assoc, length-append}
+use Rattle.std.proofs.Common.{◌≡◌, ◌∙◌, ℕ, ◌+◌, ◌-◌, ◌<◌, ◌≤◌, ◌⊎◌, inl, inr, nat_lt, ◌==◌, cond, Bool, true, false, List, [], ◌∷◌, ◌++◌, length, map, Option}
+use Rattle.std.proofs.Common.{Some, None, option_to_list, Result, Ok, Vec, refl, sym, ap, subst, arith, append_assoc, length-append}
 use Rattle.std.specs.declared.alloc.Global.{Global}
 use Rattle.std.proofs.lemmas.List.{drop-append-le, get_or_append_left, length-map}
 use Rattle.std.proofs.lemmas.Bool.Decides.{nat_tests}
@@ -72,7 +73,8 @@ pub record IsBegun (at : HandoverMap) (h : HandoverState) (ram new : RamState) :
   pub fresh_is : h ≡ fresh at
   pub stands : StandsFor h new (started (window at ram))
 
-pub begun : (at : HandoverMap) (b : Blocks HandoverMap) (ram new : RamState) → b.map ≡ at → IsEmpty b → HasWindows at ram → new ≡ memory_started at ram → IsSet at new → IsBegun at (state_of Filling b) ram new
+pub begun : (at : HandoverMap) (b : Blocks HandoverMap) (ram new : RamState) → b.map ≡ at → IsEmpty b → HasWindows at ram → new ≡ memory_started at ram →
+    IsSet at new → IsBegun at (state_of Filling b) ram new
 begun at b ram new same e w is set =
     let all : state_of Filling b ≡ fresh at = fresh_is b e ∙ ap fresh same in
     record {
@@ -134,7 +136,8 @@ submits_more k m block held waiting is_held is_waiting good a =
       last_is = a.last_is ∙ sym (get_or_append_left ([] ∷ m.blocks) (block ∷ []) [] m.taken (omega (arith, t, s)));
     }
 
-pub submits : (h : HandoverState) (ram : RamState) (m : Machine) (block : List ℕ) → Fits h.map.len block → StandsFor h ram m → StandsFor (record h { waiting = h.waiting ++ block ∷ [] }) ram (submitted m block)
+pub submits : (h : HandoverState) (ram : RamState) (m : Machine) (block : List ℕ) → Fits h.map.len block → StandsFor h ram m →
+    StandsFor (record h { waiting = h.waiting ++ block ∷ [] }) ram (submitted m block)
 submits h ram m block good st =
     let more = submits_more (kept_with h (window h.map ram)) m block (option_to_list h.at_work ++ (h.waiting ++ block ∷ [])) (length (h.waiting ++ block ∷ []))
     (sym (append_assoc (option_to_list h.at_work) h.waiting (block ∷ []))) (length-append h.waiting (block ∷ [])) good (agrees h ram m st) in
@@ -151,7 +154,8 @@ waiting_of None b all = absurd all
 waiting_of (Some ends) b all = length-map b.waiting.items (λ v. v.items) ∙ all.room.counted
 
 -- a block more
-added_in : {M : Type 0} {w : M → BlockWindow} (s : Situation) (b after : Blocks M) (block : List ℕ) → Adds w b after block → state_of s after ≡ record (state_of s b) { waiting = (state_of s b).waiting ++ block ∷ [] }
+added_in : {M : Type 0} {w : M → BlockWindow} (s : Situation) (b after : Blocks M) (block : List ℕ) → Adds w b after block →
+    state_of s after ≡ record (state_of s b) { waiting = (state_of s b).waiting ++ block ∷ [] }
 added_in s b after block a =
     let waiting = a.waiting in
     let map_is = a.same.map in
@@ -163,7 +167,8 @@ added_in s b after block a =
     ap (λ (x : Option (Vec ℕ Global)). in_work s x after.last) a.at_work ∙ ap (λ (x : Vec ℕ Global). in_work s b.at_work x) a.same.last in
     cc
 
-pub added : {M : Type 0} {w : M → BlockWindow} (ends : Option Ends) (b after : Blocks M) (block : List ℕ) → Adds w b after block → view_of ends after ≡ record (view_of ends b) { waiting = (view_of ends b).waiting ++ block ∷ [] }
+pub added : {M : Type 0} {w : M → BlockWindow} (ends : Option Ends) (b after : Blocks M) (block : List ℕ) → Adds w b after block →
+    view_of ends after ≡ record (view_of ends b) { waiting = (view_of ends b).waiting ++ block ∷ [] }
 added ends b after block a =
     ap (λ (o : Option (Vec ℕ Global)). state_of (situation_in ends o) after) a.at_work ∙ added_in (situation_in ends b.at_work) b after block a
 

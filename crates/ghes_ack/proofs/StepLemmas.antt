@@ -1,5 +1,6 @@
 -- Each step of the machine leaves a state of it.
-use Rattle.std.proofs.Common.{◌≡◌, ℕ, suc, ◌+◌, ◌-◌, ◌*◌, ◌<◌, ◌≤◌, ◌⊎◌, inl, inr, nat_lt, Bool, true, false, List, [], ◌∷◌, length, take, drop, get_or, All, refl, sym, ap, ◌∙◌, subst, arith, length-append, length-drop}
+use Rattle.std.proofs.Common.{◌≡◌, ℕ, suc, ◌+◌, ◌-◌, ◌*◌, ◌<◌, ◌≤◌, ◌⊎◌, inl, inr, nat_lt, Bool, true, false, List, [], ◌∷◌, length, take, drop, get_or, All}
+use Rattle.std.proofs.Common.{refl, sym, ap, ◌∙◌, subst, arith, length-append, length-drop}
 use Rattle.std.proofs.lemmas.List.{length-take, get_or-drop, get_or_append_left, take_all}
 use Rattle.std.proofs.lemmas.List.Elements.{All-get_or, All-append, All-nil}
 use Rattle.std.proofs.lemmas.Bool.Decides.{nat_tests}
@@ -8,7 +9,9 @@ use Rattle.base_model.specs.Bytes.{number_at, spelled}
 use Rattle.base_model.proofs.BytesLemmas.{length-spelled}
 use Rattle.ghes_ack.specs.declared.events.Side.{Side}
 use Rattle.ghes_ack.specs.declared.events.Side.TheVariants.{Firmware, Reader}
-use Rattle.ghes_ack.specs.Machine.{Machine, Situation, Filling, Published, Reading, Cleared, Acknowledged, Fits, at_work, pieces, hidden, with_piece, with_status, filling, firmware_turn, reader_turn, turned, started, submitted, IsFilling, IsWhole, IsEmptied, InSituation, IsState}
+use Rattle.ghes_ack.specs.Machine.{Machine, Situation, Filling, Published, Reading, Cleared, Acknowledged, Fits, at_work, pieces, hidden, with_piece}
+use Rattle.ghes_ack.specs.Machine.{with_status, filling, firmware_turn, reader_turn, turned, started, submitted, IsFilling, IsWhole, IsEmptied, InSituation}
+use Rattle.ghes_ack.specs.Machine.{IsState}
 use Rattle.ghes_ack.proofs.Terms.{IsReading}
 use Rattle.ghes_ack.proofs.Terms.{offered}
 use Rattle.ghes_ack.proofs.Terms.{reading}
@@ -19,7 +22,8 @@ pub fits_at_work : (len : ℕ) (m : Machine) → All (Fits len) m.blocks → m.a
 fits_at_work len m all there = All-get_or (Fits len) m.blocks m.acknowledged [] there all
 
 -- the block that is offered is the one at work
-pub offered-first : (m : Machine) (block : List ℕ) (waiting : List (List ℕ)) → m.published ≡ m.acknowledged → drop m.published m.blocks ≡ block ∷ waiting → (at_work m ≡ block) × (m.acknowledged < length m.blocks)
+pub offered-first : (m : Machine) (block : List ℕ) (waiting : List (List ℕ)) → m.published ≡ m.acknowledged → drop m.published m.blocks ≡ block ∷ waiting →
+    (at_work m ≡ block) × (m.acknowledged < length m.blocks)
 offered-first m block waiting same is =
     let e : get_or (drop m.published m.blocks) 0 [] ≡ get_or (block ∷ waiting) 0 [] = ap (λ (xs : List (List ℕ)). get_or xs 0 []) is in
     let at : get_or (drop m.published m.blocks) 0 [] ≡ get_or m.blocks (m.published + 0) [] = get_or-drop m.published m.blocks 0 [] in
@@ -134,7 +138,8 @@ reading_keeps len m now st (inl h) = test (nat_lt (m.copied + 1) (pieces (at_wor
   copies x = same_blocks len m (record m { copied = m.copied + 1 }) refl refl st (subst (λ (s : Situation). InSituation (record m { copied = m.copied + 1 }) s) (sym now) x)
 
   takes : IsReading (record m { copied = m.copied + 1; taken = m.taken + 1 }) → IsState len (record m { copied = m.copied + 1; taken = m.taken + 1 })
-  takes x = same_blocks len m (record m { copied = m.copied + 1; taken = m.taken + 1 }) refl refl st (subst (λ (s : Situation). InSituation (record m { copied = m.copied + 1; taken = m.taken + 1 }) s) (sym now) x)
+  takes x = same_blocks len m (record m { copied = m.copied + 1; taken = m.taken + 1 }) refl refl st
+      (subst (λ (s : Situation). InSituation (record m { copied = m.copied + 1; taken = m.taken + 1 }) s) (sym now) x)
 
   test : (b : Bool) → nat_lt (m.copied + 1) (pieces (at_work m)) ≡ b → IsState len (reading m (at_work m)).1
   test true e = rw e (copies (inl ((grind (arith, nat_tests)), record { published = h.1.published; taken_is = h.1.taken_is; there = h.1.there; none_filled = h.1.none_filled; whole = h.1.whole })))

@@ -39,7 +39,8 @@ agrees h ram m st = record {
   last_is = st.last;
 }
 
-pub stands_by : (h : HandoverState) (ram : RamState) (bytes : List ℕ) (m : Machine) → Agrees (kept_with h bytes) m → bytes ≡ window h.map ram → HasWindows h.map ram → address_at h.map.status ram ≡ h.map.block → AcksAre h.situation h.map ram → StandsFor h ram m
+pub stands_by : (h : HandoverState) (ram : RamState) (bytes : List ℕ) (m : Machine) → Agrees (kept_with h bytes) m → bytes ≡ window h.map ram →
+    HasWindows h.map ram → address_at h.map.status ram ≡ h.map.block → AcksAre h.situation h.map ram → StandsFor h ram m
 stands_by h ram bytes m a seen windows address acks = record {
   state = a.state;
   windows = windows;
@@ -68,8 +69,10 @@ pub set_and_clear : (at : HandoverMap) (ram : RamState) → HasAckBits at → Is
 set_and_clear at ram bits set clear = let some = bits.some in let e : ack_mask at ≡ 0 = sym set ∙ clear in omega (arith, some, e)
 
 -- a turn that the machine makes so: what it keeps then, and what the memory is
-turns : (side : Side) (event : Event) (h after : HandoverState) (ram memory : RamState) (bytes : List ℕ) (m : Machine) → Next side event (kept_with after bytes) m → bytes ≡ window after.map memory → after.map ≡ h.map →
-    memory ≡ memory_after h.map event ram (window h.map memory) → HasWindows after.map memory → address_at after.map.status memory ≡ after.map.block → AcksAre after.situation after.map memory → Turns side event (over h ram) (over after memory) m
+turns : (side : Side) (event : Event) (h after : HandoverState) (ram memory : RamState) (bytes : List ℕ) (m : Machine) → Next side event (kept_with after bytes)
+    m → bytes ≡ window after.map memory → after.map ≡ h.map →
+    memory ≡ memory_after h.map event ram (window h.map memory) → HasWindows after.map memory → address_at after.map.status memory ≡ after.map.block →
+    AcksAre after.situation after.map memory → Turns side event (over h ram) (over after memory) m
 turns side event h after ram memory bytes m next seen same memory_is windows address acks =
     let e : (turned side m).1 ≡ next.machine = ap (λ (t : Turned). t.1) next.is in
     record {
@@ -82,7 +85,8 @@ turns side event h after ram memory bytes m next seen same memory_is windows add
     }
 
 -- a turn that leaves the memory
-stays : (side : Side) (event : Event) (h after : HandoverState) (ram : RamState) (m : Machine) → Next side event (kept_with after (window after.map ram)) m → after.map ≡ h.map → ram ≡ memory_after h.map event ram (window h.map ram) →
+stays : (side : Side) (event : Event) (h after : HandoverState) (ram : RamState) (m : Machine) → Next side event (kept_with after (window after.map ram)) m →
+    after.map ≡ h.map → ram ≡ memory_after h.map event ram (window h.map ram) →
     HasWindows after.map ram → address_at after.map.status ram ≡ after.map.block → AcksAre after.situation after.map ram → Turns side event (over h ram) (over after ram) m
 stays side event h after ram m next same is windows address acks = turns side event h after ram ram (window after.map ram) m next refl same is windows address acks
 
@@ -90,10 +94,12 @@ stays side event h after ram m next same is windows address acks = turns side ev
 pub written : (map : HandoverMap) (ram new : RamState) (bytes : List ℕ) → HasWindows map ram → length bytes ≡ map.len → new ≡ with_window map ram bytes → window map new ≡ bytes
 written map ram new bytes w n is = ap (window map) is ∙ window-with_window map ram bytes w n
 
-pub written_only : (map : HandoverMap) (ram new : RamState) (bytes : List ℕ) → HasWindows map ram → length bytes ≡ map.len → new ≡ with_window map ram bytes → new ≡ with_window map ram (window map new)
+pub written_only : (map : HandoverMap) (ram new : RamState) (bytes : List ℕ) → HasWindows map ram → length bytes ≡ map.len → new ≡ with_window map ram bytes →
+    new ≡ with_window map ram (window map new)
 written_only map ram new bytes w n is = is ∙ ap (with_window map ram) (sym (written map ram new bytes w n is))
 
-same_address : (map : HandoverMap) (ram new : RamState) (bytes : List ℕ) → HasWindows map ram → length bytes ≡ map.len → new ≡ with_window map ram bytes → address_at map.status new ≡ address_at map.status ram
+same_address : (map : HandoverMap) (ram new : RamState) (bytes : List ℕ) → HasWindows map ram → length bytes ≡ map.len → new ≡ with_window map ram bytes →
+    address_at map.status new ≡ address_at map.status ram
 same_address map ram new bytes w n is = ap (address_at map.status) is ∙ address-with_window map ram bytes w n
 
 -- the firmware's block fits into the window
@@ -115,7 +121,9 @@ fills h ram new m block rest now held more memory st =
     (machine.fills (kept_with h (window h.map ram)) m block rest now held more (agrees h ram m st)) (sym (written h.map ram new (with_piece (window h.map ram) block h.filled) w wide memory)) refl
     (written_only h.map ram new (with_piece (window h.map ram) block h.filled) w wide memory) (windows_window h.map ram new (with_piece (window h.map ram) block h.filled) memory wide w)
     (same_address h.map ram new (with_piece (window h.map ram) block h.filled) w wide memory ∙ st.address)
-    (subst (λ (s : Situation). AcksAre s h.map new) (sym now) (same_ack h.map ram new (ap (ack_read h.map) memory ∙ ack-with_window h.map ram (with_piece (window h.map ram) block h.filled) w wide) (acks_in h ram m Filling now st)))
+    (subst (λ (s : Situation). AcksAre s h.map new) (sym now)
+    (same_ack h.map ram new (ap (ack_read h.map) memory ∙ ack-with_window h.map ram (with_piece (window h.map ram) block h.filled) w wide)
+    (acks_in h ram m Filling now st)))
 
 -- a block all of whose pieces are filled is published
 pub publishes : (h : HandoverState) (ram new : RamState) (m : Machine) (block : List ℕ) (rest : List (List ℕ)) → h.situation ≡ Filling → kept h ≡ block ∷ rest → length block ≤ 64 * h.filled →
@@ -128,17 +136,20 @@ publishes h ram new m block rest now held none memory clear st =
     let value = with_clear h.map (ack_read h.map ram) in
     let before = HasWindows-with_ack h.map ram value st.windows in
     turns Firmware Publish h (record h { waiting = rest; at_work = Some block; filled = 0; situation = Published }) ram new (with_status (window h.map ram) (take 4 block)) m
-    (machine.publishes (kept_with h (window h.map ram)) m block rest now held none (agrees h ram m st)) (sym (written h.map (with_ack h.map ram value) new (with_status (window h.map ram) (take 4 block)) before wide memory)) refl
+    (machine.publishes (kept_with h (window h.map ram)) m block rest now held none (agrees h ram m st))
+    (sym (written h.map (with_ack h.map ram value) new (with_status (window h.map ram) (take 4 block)) before wide memory)) refl
     (written_only h.map (with_ack h.map ram value) new (with_status (window h.map ram) (take 4 block)) before wide memory)
     (windows_window h.map (with_ack h.map ram value) new (with_status (window h.map ram) (take 4 block)) memory wide before)
     (same_address h.map (with_ack h.map ram value) new (with_status (window h.map ram) (take 4 block)) before wide memory ∙ address-with_ack h.map ram value st.windows ∙ st.address) clear
 
-pub waits : (h : HandoverState) (ram : RamState) (m : Machine) → (h.situation ≡ Published) ⊎ ((h.situation ≡ Reading) ⊎ (h.situation ≡ Cleared)) → StandsFor h ram m → Turns Firmware Wait (over h ram) (over h ram) m
+pub waits : (h : HandoverState) (ram : RamState) (m : Machine) → (h.situation ≡ Published) ⊎ ((h.situation ≡ Reading) ⊎ (h.situation ≡ Cleared)) →
+    StandsFor h ram m → Turns Firmware Wait (over h ram) (over h ram) m
 waits h ram m held st = stays Firmware Wait h h ram m (machine.waits (kept_with h (window h.map ram)) m held (agrees h ram m st)) refl refl st.windows st.address st.acks
 
 pub frees : (h : HandoverState) (ram : RamState) (m : Machine) → h.situation ≡ Acknowledged → StandsFor h ram m → Turns Firmware Free (over h ram) (over (record h { situation = Filling }) ram) m
 frees h ram m now st =
-    stays Firmware Free h (record h { situation = Filling }) ram m (machine.frees (kept_with h (window h.map ram)) m now (agrees h ram m st)) refl refl st.windows st.address (acks_in h ram m Acknowledged now st)
+    stays Firmware Free h (record h { situation = Filling }) ram m (machine.frees (kept_with h (window h.map ram)) m now (agrees h ram m st)) refl refl
+    st.windows st.address (acks_in h ram m Acknowledged now st)
 
 pub no_status : (h : HandoverState) (ram : RamState) (m : Machine) → (h.situation ≡ Filling) ⊎ (h.situation ≡ Acknowledged) → StandsFor h ram m → number_at (window h.map ram) 0 4 ≡ 0
 no_status h ram m now st = machine.no_status (kept_with h (window h.map ram)) m now (agrees h ram m st)
@@ -150,9 +161,11 @@ finds_nothing h ram m now st = stays Reader Nothing h h ram m (machine.finds_not
 pub some_status : (h : HandoverState) (ram : RamState) (m : Machine) → h.situation ≡ Published → StandsFor h ram m → 0 < number_at (window h.map ram) 0 4
 some_status h ram m now st = machine.some_status (kept_with h (window h.map ram)) m (inl now) (agrees h ram m st)
 
-pub finds : (h : HandoverState) (ram : RamState) (m : Machine) → h.situation ≡ Published → StandsFor h ram m → Turns Reader Found (over h ram) (over (record h { situation = Reading; copied = 0 }) ram) m
+pub finds : (h : HandoverState) (ram : RamState) (m : Machine) → h.situation ≡ Published → StandsFor h ram m →
+    Turns Reader Found (over h ram) (over (record h { situation = Reading; copied = 0 }) ram) m
 finds h ram m now st =
-    stays Reader Found h (record h { situation = Reading; copied = 0 }) ram m (machine.finds (kept_with h (window h.map ram)) m now (agrees h ram m st)) refl refl st.windows st.address (acks_in h ram m Published now st)
+    stays Reader Found h (record h { situation = Reading; copied = 0 }) ram m (machine.finds (kept_with h (window h.map ram)) m now (agrees h ram m st)) refl
+    refl st.windows st.address (acks_in h ram m Published now st)
 
 -- the block that is published and not acknowledged
 held_work : (h : HandoverState) (block : List ℕ) → h.at_work ≡ Some block → kept h ≡ block ∷ h.waiting
@@ -162,19 +175,23 @@ pub work_fits : (h : HandoverState) (ram : RamState) (m : Machine) (block : List
 work_fits h ram m block is st = next_fits h ram m block h.waiting (held_work h block is) st
 
 -- a copy of bytes goes over the same bytes
-pub copies_over : (h : HandoverState) (ram : RamState) (block : List ℕ) (at n : ℕ) → h.situation ≡ Reading → h.at_work ≡ Some block → 64 * h.copied < length block → at + n ≤ length block → Stands h ram →
+pub copies_over : (h : HandoverState) (ram : RamState) (block : List ℕ) (at n : ℕ) → h.situation ≡ Reading → h.at_work ≡ Some block →
+    64 * h.copied < length block → at + n ≤ length block → Stands h ram →
     put_at block at (part (window h.map ram) at n) ≡ block
 copies_over h ram block at n now is more inside (m, st) = machine.copies_over (kept_with h (window h.map ram)) m block h.waiting at n now (held_work h block is) more inside (agrees h ram m st)
 
 pub copies_more : (h : HandoverState) (ram : RamState) (m : Machine) (block : List ℕ) → h.situation ≡ Reading → h.at_work ≡ Some block → 64 * (h.copied + 1) < length block → StandsFor h ram m →
     Turns Reader Copied (over h ram) (over (record h { copied = h.copied + 1 }) ram) m
 copies_more h ram m block now is more st =
-    stays Reader Copied h (record h { copied = h.copied + 1 }) ram m (machine.copies_more (kept_with h (window h.map ram)) m block h.waiting now (held_work h block is) more (agrees h ram m st)) refl refl st.windows st.address st.acks
+    stays Reader Copied h (record h { copied = h.copied + 1 }) ram m (machine.copies_more (kept_with h (window h.map ram)) m block h.waiting now
+    (held_work h block is) more (agrees h ram m st)) refl refl st.windows st.address st.acks
 
-pub copies_last : (h : HandoverState) (ram : RamState) (m : Machine) (block : List ℕ) → h.situation ≡ Reading → h.at_work ≡ Some block → 64 * h.copied < length block → length block ≤ 64 * (h.copied + 1) → StandsFor h ram m →
+pub copies_last : (h : HandoverState) (ram : RamState) (m : Machine) (block : List ℕ) → h.situation ≡ Reading → h.at_work ≡ Some block →
+    64 * h.copied < length block → length block ≤ 64 * (h.copied + 1) → StandsFor h ram m →
     Turns Reader Took (over h ram) (over (record h { copied = h.copied + 1; last = block }) ram) m
 copies_last h ram m block now is more all st =
-    stays Reader Took h (record h { copied = h.copied + 1; last = block }) ram m (machine.copies_last (kept_with h (window h.map ram)) m block h.waiting now (held_work h block is) more all (agrees h ram m st)) refl refl st.windows st.address st.acks
+    stays Reader Took h (record h { copied = h.copied + 1; last = block }) ram m (machine.copies_last (kept_with h (window h.map ram)) m block h.waiting now
+    (held_work h block is) more all (agrees h ram m st)) refl refl st.windows st.address st.acks
 
 pub clears : (h : HandoverState) (ram new : RamState) (m : Machine) (block : List ℕ) → h.situation ≡ Reading → h.at_work ≡ Some block → length block ≤ 64 * h.copied →
     new ≡ with_window h.map ram (with_status (window h.map ram) (spelled 4 0)) → StandsFor h ram m → Turns Reader Clear (over h ram) (over (record h { situation = Cleared }) new) m
@@ -182,15 +199,18 @@ clears h ram new m block now is all memory st =
     let w = st.windows in
     let wide = length-status h.map ram (spelled 4 0) (length-spelled 4 0) w in
     turns Reader Clear h (record h { situation = Cleared }) ram new (with_status (window h.map ram) (spelled 4 0)) m
-    (machine.clears (kept_with h (window h.map ram)) m block h.waiting now (held_work h block is) all (agrees h ram m st)) (sym (written h.map ram new (with_status (window h.map ram) (spelled 4 0)) w wide memory)) refl
+    (machine.clears (kept_with h (window h.map ram)) m block h.waiting now (held_work h block is) all (agrees h ram m st))
+    (sym (written h.map ram new (with_status (window h.map ram) (spelled 4 0)) w wide memory)) refl
     (written_only h.map ram new (with_status (window h.map ram) (spelled 4 0)) w wide memory) (windows_window h.map ram new (with_status (window h.map ram) (spelled 4 0)) memory wide w)
     (same_address h.map ram new (with_status (window h.map ram) (spelled 4 0)) w wide memory ∙ st.address)
     (same_clear h.map ram new (ap (ack_read h.map) memory ∙ ack-with_window h.map ram (with_status (window h.map ram) (spelled 4 0)) w wide) (acks_in h ram m Reading now st))
 
 pub acknowledges : (h : HandoverState) (ram new : RamState) (m : Machine) (block : List ℕ) → h.situation ≡ Cleared → h.at_work ≡ Some block →
-    new ≡ with_ack h.map ram (acknowledged h.map (ack_read h.map ram)) → IsSet h.map new → StandsFor h ram m → Turns Reader Ack (over h ram) (over (record h { situation = Acknowledged; at_work = None }) new) m
+    new ≡ with_ack h.map ram (acknowledged h.map (ack_read h.map ram)) → IsSet h.map new → StandsFor h ram m →
+    Turns Reader Ack (over h ram) (over (record h { situation = Acknowledged; at_work = None }) new) m
 acknowledges h ram new m block now is memory set st =
     let value = acknowledged h.map (ack_read h.map ram) in
     turns Reader Ack h (record h { situation = Acknowledged; at_work = None }) ram new (window h.map ram) m
-    (machine.acknowledges (kept_with h (window h.map ram)) m block h.waiting now (held_work h block is) (agrees h ram m st)) (sym (ap (window h.map) memory ∙ window-with_ack h.map ram value st.windows)) refl
+    (machine.acknowledges (kept_with h (window h.map ram)) m block h.waiting now (held_work h block is) (agrees h ram m st))
+    (sym (ap (window h.map) memory ∙ window-with_ack h.map ram value st.windows)) refl
     memory (windows_ack h.map ram new value memory st.windows) (ap (address_at h.map.status) memory ∙ address-with_ack h.map ram value st.windows ∙ st.address) set

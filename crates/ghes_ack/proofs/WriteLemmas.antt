@@ -77,8 +77,10 @@ zeros_spelled : spelled 4 0 ≡ zeros 4
 unfolding spelled
 zeros_spelled = refl
 
-pub filled_start : (at : BlockWindow) (ram hid new : RamState) (block bytes : List ℕ) (count end : ℕ) → HasBlock at ram → 20 ≤ length block → length block ≤ at.len → 0 < count → end ≡ min (length block) (64 * count) → bytes ≡ part block 4 (end - 4) →
-    hid ≡ with_block at ram (put_at (block_bytes at ram) 0 (spelled 4 0)) → new ≡ with_block at hid (put_at (block_bytes at hid) 4 bytes) → new ≡ with_block at ram (with_pieces (block_bytes at ram) block 0 count)
+pub filled_start : (at : BlockWindow) (ram hid new : RamState) (block bytes : List ℕ) (count end : ℕ) → HasBlock at ram → 20 ≤ length block →
+    length block ≤ at.len → 0 < count → end ≡ min (length block) (64 * count) → bytes ≡ part block 4 (end - 4) →
+    hid ≡ with_block at ram (put_at (block_bytes at ram) 0 (spelled 4 0)) → new ≡ with_block at hid (put_at (block_bytes at hid) 4 bytes) →
+    new ≡ with_block at ram (with_pieces (block_bytes at ram) block 0 count)
 filled_start at ram hid new block bytes count end w head fits some is_end is_bytes is_hid is =
     let four = length-spelled 4 0 in
     let n = length-block at ram w in
@@ -100,7 +102,8 @@ filled_start at ram hid new block bytes count end w head fits some is_end is_byt
     ∙ block_twice at ram (put_at (block_bytes at ram) 0 (spelled 4 0)) (with_pieces (block_bytes at ram) block 0 count) w wide long
 
 -- pieces behind the first
-pub filled_on : (at : BlockWindow) (ram new : RamState) (block bytes : List ℕ) (piece count end : ℕ) → 0 < piece → 64 * piece < length block → end ≡ min (length block) (64 * piece + 64 * count) → bytes ≡ part block (64 * piece) (end - 64 * piece) →
+pub filled_on : (at : BlockWindow) (ram new : RamState) (block bytes : List ℕ) (piece count end : ℕ) → 0 < piece → 64 * piece < length block →
+    end ≡ min (length block) (64 * piece + 64 * count) → bytes ≡ part block (64 * piece) (end - 64 * piece) →
     new ≡ with_block at ram (put_at (block_bytes at ram) (64 * piece) bytes) → new ≡ with_block at ram (with_pieces (block_bytes at ram) block piece count)
 filled_on at ram new block bytes piece count end some more is_end is_bytes is =
     let n = length-hidden block in
@@ -110,7 +113,8 @@ filled_on at ram new block bytes piece count end some more is_end is_bytes is =
     is ∙ ap (λ (x : List ℕ). with_block at ram (put_at (block_bytes at ram) (64 * piece) x)) whole
 
 -- a piece
-pub filled_behind : (at : BlockWindow) (ram new : RamState) (block bytes : List ℕ) (piece : ℕ) → 0 < piece → 64 * piece < length block → bytes ≡ part block (64 * piece) (min (length block) (64 * piece + 64) - 64 * piece) →
+pub filled_behind : (at : BlockWindow) (ram new : RamState) (block bytes : List ℕ) (piece : ℕ) → 0 < piece → 64 * piece < length block →
+    bytes ≡ part block (64 * piece) (min (length block) (64 * piece + 64) - 64 * piece) →
     new ≡ with_block at ram (put_at (block_bytes at ram) (64 * piece) bytes) → new ≡ with_block at ram (with_piece (block_bytes at ram) block piece)
 filled_behind at ram new block bytes piece some more e is =
     let n = length-hidden block in
@@ -128,7 +132,8 @@ mid_is old others at n is =
     ∙ sym (append_assoc (take at old) others (drop (at + length others) old))
 
 -- bytes of the window in the middle of others
-pub piece_is : (bytes out w : List ℕ) (at p end len : ℕ) → end ≡ min (length bytes) (at + p) → at < length bytes → len ≡ length (take (end - at) (drop at bytes)) → length out ≡ len → out ≡ part w at len →
+pub piece_is : (bytes out w : List ℕ) (at p end len : ℕ) → end ≡ min (length bytes) (at + p) → at < length bytes →
+    len ≡ length (take (end - at) (drop at bytes)) → length out ≡ len → out ≡ part w at len →
     take at bytes ++ (out ++ drop (end - at) (drop at bytes)) ≡ put_at bytes at (part w at (min p (length bytes - at)))
 piece_is bytes out w at p end len is_end more is_len is_out is =
     let l = is_len ∙ length-take (end - at) (drop at bytes) in

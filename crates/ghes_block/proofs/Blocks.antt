@@ -1,5 +1,6 @@
 -- The grammar of blocks and their reading agree, both ways.
-use Rattle.std.proofs.Common.{◌≡◌, ℕ, ◌+◌, ◌-◌, ◌<◌, ◌≤◌, ◌^◌, inl, inr, true, false, cond, if◌then◌else◌, List, [], ◌∷◌, ◌++◌, length, drop, map, get_or, Result, Ok, Err, refl, sym, ap, subst, ◌∙◌, arith, length-append, append_assoc}
+use Rattle.std.proofs.Common.{◌≡◌, ℕ, ◌+◌, ◌-◌, ◌<◌, ◌≤◌, ◌^◌, inl, inr, true, false, cond, if◌then◌else◌, List, [], ◌∷◌, ◌++◌, length, drop, map, get_or}
+use Rattle.std.proofs.Common.{Result, Ok, Err, refl, sym, ap, subst, ◌∙◌, arith, length-append, append_assoc}
 use Rattle.std.specs.Prelude.{◌==◌, nat_lt}
 use Rattle.std.proofs.lemmas.Bool.{cases_Bool, eqb-true, eqb-false, ltb-false, eq-eqb, ne_eqb, le-ltb, cond-true, cond-false}
 use Rattle.std.proofs.lemmas.List.{nil_from_length}
@@ -60,7 +61,8 @@ is_counted : (n len : ℕ) (count : Result ℕ BlockError) → length_if_counted
 is_counted n len (Ok m) h = ((m, refl), cc)
 is_counted n len (Err e) h = absurd (cc)
 
-is_judged : (have status offset raw data_len : ℕ) (count : Result ℕ BlockError) (len : ℕ) → head_verdict have status offset raw data_len count ≡ Ok len → Judged have status offset raw data_len count len
+is_judged : (have status offset raw data_len : ℕ) (count : Result ℕ BlockError) (len : ℕ) → head_verdict have status offset raw data_len count ≡ Ok len →
+    Judged have status offset raw data_len count len
 unfolding head_verdict
 is_judged have status offset raw data_len count len h =
     let a = ok_unless _ _ _ _ h in
@@ -218,7 +220,8 @@ head_part bytes h k =
     let fields : block_head (status_at bytes) (raw_offset bytes) (raw_length bytes) (data_length bytes) (number_at bytes 16 4) ≡ parts head_sizes 0 bytes = rw (a0, a4, a8, a12, a16) refl in
     ap joined fields ∙ joined-parts head_sizes 0 bytes
 
-raw_is : (bytes raw : List ℕ) (offset n data_len : ℕ) → raw ≡ part bytes offset n → length raw ≡ n → ((n == 0) ≡ false → 20 + data_len ≤ offset) → length_by offset n data_len ≡ length bytes → RawIs bytes raw offset data_len
+raw_is : (bytes raw : List ℕ) (offset n data_len : ℕ) → raw ≡ part bytes offset n → length raw ≡ n → ((n == 0) ≡ false → 20 + data_len ≤ offset) →
+    length_by offset n data_len ≡ length bytes → RawIs bytes raw offset data_len
 raw_is bytes [] offset n data_len e size behind len =
     let zero_is : (n == 0) ≡ true = eq-eqb n 0 (sym size) in
     sym len ∙ cond-true (n == 0) (20 + data_len) (offset + n) zero_is
@@ -259,13 +262,16 @@ is_block bytes h p e =
         drop (20 + n) bytes,
         number_at-lt bytes 4 4 h (omega arith),
         sym (
-            ap (λ (m : ℕ). joined (block_head (status_at bytes) (raw_offset bytes) m (length (entries_bytes (entries_in (data_of bytes)))) (number_at bytes 16 4)) ++ entries_bytes (entries_in (data_of bytes)) ++ drop (20 + n) bytes) raw
-            ∙ ap (λ (m : ℕ). joined (block_head (status_at bytes) (raw_offset bytes) (raw_length bytes) m (number_at bytes 16 4)) ++ entries_bytes (entries_in (data_of bytes)) ++ drop (20 + n) bytes) data_is
+            ap (λ (m : ℕ). joined (block_head (status_at bytes) (raw_offset bytes) m (length (entries_bytes (entries_in (data_of bytes))))
+            (number_at bytes 16 4)) ++ entries_bytes (entries_in (data_of bytes)) ++ drop (20 + n) bytes) raw
+            ∙ ap (λ (m : ℕ). joined (block_head (status_at bytes) (raw_offset bytes) (raw_length bytes) m (number_at bytes 16 4)) ++ entries_bytes
+            (entries_in (data_of bytes)) ++ drop (20 + n) bytes) data_is
             ∙ ap (λ (xs : List ℕ). xs ++ entries_bytes (entries_in (data_of bytes)) ++ drop (20 + n) bytes) (head_part bytes h long)
             ∙ ap (λ (xs : List ℕ). part bytes 0 20 ++ xs ++ drop (20 + n) bytes) spelled_is
             ∙ ap (λ (xs : List ℕ). xs ++ drop (20 + n) bytes) (part-append bytes 0 20 n)
             ∙ part-append-drop bytes (20 + n)),
-        subst (λ (m : ℕ). RawIs bytes (part bytes (raw_offset bytes) (raw_length bytes)) (raw_offset bytes) m) (sym data_is) (raw_is bytes (part bytes (raw_offset bytes) (raw_length bytes)) (raw_offset bytes) (raw_length bytes) n refl raw p.behind e),
+        subst (λ (m : ℕ). RawIs bytes (part bytes (raw_offset bytes) (raw_length bytes)) (raw_offset bytes) m) (sym data_is)
+            (raw_is bytes (part bytes (raw_offset bytes) (raw_length bytes)) (raw_offset bytes) (raw_length bytes) n refl raw p.behind e),
       );
     }
 
@@ -309,9 +315,11 @@ reads_again value bytes is =
     let raw_is = number_of bytes 8 4 (length value.raw) (field 2) is.raw in
     let data_is = number_of bytes 12 4 n (field 3) is.data_short in
     let severity = number_of bytes 16 4 value.severity (field 4) is.severity in
-    let all : length bytes ≡ 20 + (n + length rest) = ap length regrouped ∙ length-append (joined head) (content ++ rest) ∙ ap (λ (k : ℕ). length (joined head) + k) (length-append content rest) ∙ omega arith in
+    let all : length bytes ≡ 20 + (n + length rest) = ap length regrouped ∙ length-append (joined head) (content ++ rest)
+    ∙ ap (λ (k : ℕ). length (joined head) + k) (length-append content rest) ∙ omega arith in
     let content_is : data_of bytes ≡ content =
-    ap (part bytes 20) data_is ∙ ap (λ (xs : List ℕ). part xs 20 n) split ∙ part-append_left (joined head ++ content) rest 20 n (omega (arith, length-append (joined head) content)) ∙ part-second (joined head) content 20 n long refl in
+    ap (part bytes 20) data_is ∙ ap (λ (xs : List ℕ). part xs 20 n) split ∙ part-append_left (joined head ++ content) rest 20 n
+    (omega (arith, length-append (joined head) content)) ∙ part-second (joined head) content 20 n long refl in
     let c = counts_again value.entries content is.entries refl in
     let raw = raw_reads bytes value.raw offset n is.spelling.4 in
     let raw_part = raw.part_is in

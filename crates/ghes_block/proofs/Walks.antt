@@ -113,8 +113,14 @@ from_items at (entry ∷ entries) content are =
 to_items : (at : ℕ) (entries : List EntryValue) (content : List ℕ) → All IsEntry entries → content ≡ entries_bytes entries → AreItems IsEntryAt IsNothing at entries content
 unfolding IsEntryAt IsNothing entries_bytes
 to_items at [] content all e = e
-to_items at (entry ∷ entries) content all e =
-    (entry_bytes entry, entries_bytes entries, e, (All-head IsEntry entry entries all, refl), to_items (at + length (entry_bytes entry)) entries (entries_bytes entries) (All-tail IsEntry entry entries all) refl)
+to_items at (entry ∷ entries) content all e = (
+  entry_bytes entry,
+  entries_bytes entries,
+  e,
+  (All-head IsEntry entry entries all, refl),
+  to_items (at + length (entry_bytes entry)) entries
+      (entries_bytes entries) (All-tail IsEntry entry entries all) refl,
+)
 
 -- what was counted is spelled so
 pub record Counts (n : ℕ) (content : List ℕ) (entries : List EntryValue) : Type 0 where

@@ -1,5 +1,6 @@
 -- The checks of a head one by one, and what a whole block's bytes hold.
-use Rattle.std.proofs.Common.{◌≡◌, ℕ, zero, suc, ◌+◌, ◌-◌, ◌<◌, ◌≤◌, ◌^◌, inl, inr, false, List, [], ◌∷◌, ◌++◌, length, take, drop, Some, Result, Ok, Err, refl, sym, ap, subst, ◌∙◌, arith, length-append, append-nil, append_assoc}
+use Rattle.std.proofs.Common.{◌≡◌, ℕ, zero, suc, ◌+◌, ◌-◌, ◌<◌, ◌≤◌, ◌^◌, inl, inr, false, List, [], ◌∷◌, ◌++◌, length, take, drop, Some, Result, Ok, Err, refl}
+use Rattle.std.proofs.Common.{sym, ap, subst, ◌∙◌, arith, length-append, append-nil, append_assoc}
 use Rattle.std.specs.Prelude.{All, ◌==◌, nat_lt, slice_get, MatchResult}
 use Rattle.std.proofs.lemmas.Bool.{lt-ltb, eq-eqb, ne_eqb, le-ltb, cond-true, cond-false, cases_lt}
 use Rattle.std.proofs.lemmas.Result.{MatchResult-weaker}
@@ -45,7 +46,8 @@ at_no_raw bytes h k none =
     ∙ cond-false (status_at bytes == 0) (Err NotPublished) _ (published bytes k)
     ∙ cond-true (raw_length bytes == 0) _ _ (eq-eqb (raw_length bytes) 0 none)
 
-pub at_raw_offset : (bytes : List ℕ) → 20 ≤ length bytes → (status_at bytes ≡ 0 → ⊥) → (raw_length bytes ≡ 0 → ⊥) → raw_offset bytes < 20 + data_length bytes → checked bytes ≡ Err (RawOffset (raw_offset bytes))
+pub at_raw_offset : (bytes : List ℕ) → 20 ≤ length bytes → (status_at bytes ≡ 0 → ⊥) → (raw_length bytes ≡ 0 → ⊥) → raw_offset bytes < 20 + data_length bytes →
+    checked bytes ≡ Err (RawOffset (raw_offset bytes))
 unfolding head_verdict
 at_raw_offset bytes h k some low =
     long bytes h
@@ -53,7 +55,8 @@ at_raw_offset bytes h k some low =
     ∙ cond-false (raw_length bytes == 0) (length_if_there (length bytes) (20 + data_length bytes) (entry_count bytes)) _ (ne_eqb (raw_length bytes) 0 some)
     ∙ cond-true (nat_lt (raw_offset bytes) (20 + data_length bytes)) _ _ (lt-ltb (raw_offset bytes) (20 + data_length bytes) low)
 
-pub at_raw : (bytes : List ℕ) → 20 ≤ length bytes → (status_at bytes ≡ 0 → ⊥) → (raw_length bytes ≡ 0 → ⊥) → 20 + data_length bytes ≤ raw_offset bytes → checked bytes ≡ length_if_there (length bytes) (raw_offset bytes + raw_length bytes) (entry_count bytes)
+pub at_raw : (bytes : List ℕ) → 20 ≤ length bytes → (status_at bytes ≡ 0 → ⊥) → (raw_length bytes ≡ 0 → ⊥) → 20 + data_length bytes ≤ raw_offset bytes →
+    checked bytes ≡ length_if_there (length bytes) (raw_offset bytes + raw_length bytes) (entry_count bytes)
 unfolding head_verdict
 at_raw bytes h k some high =
     long bytes h
@@ -234,7 +237,8 @@ pub record PlaceIs (bytes : List ℕ) (at : ℕ) (entries : List EntryValue) : T
   pub end : place_of entries (length entries) ≡ 20 + data_length bytes
   pub there : at < 20 + data_length bytes → EntryThere bytes at entries
 
-pub place_is : (bytes : List ℕ) (at : ℕ) (entries : List EntryValue) → 20 + data_length bytes ≤ length bytes → All IsEntry entries → entries_bytes entries ≡ data_of bytes → IsPlace entries at → PlaceIs bytes at entries
+pub place_is : (bytes : List ℕ) (at : ℕ) (entries : List EntryValue) → 20 + data_length bytes ≤ length bytes → All IsEntry entries →
+    entries_bytes entries ≡ data_of bytes → IsPlace entries at → PlaceIs bytes at entries
 place_is bytes at entries fits all spelled_is p =
     let k = p.index in
     let place = p.place in
@@ -245,7 +249,8 @@ place_is bytes at entries fits all spelled_is p =
     let sums : d ≡ length (entries_bytes (take k entries)) + length (entries_bytes (drop k entries)) =
     sym size ∙ ap length (sym spelled_is ∙ split) ∙ length-append (entries_bytes (take k entries)) (entries_bytes (drop k entries)) in
     let all_of : take (length entries) entries ≡ entries = take_all (length entries) entries (omega arith) in
-    let end : place_of entries (length entries) ≡ 20 + d = ap (λ (es : List EntryValue). 20 + length (entries_bytes es)) all_of ∙ ap (λ (xs : List ℕ). 20 + length xs) spelled_is ∙ ap (λ (n : ℕ). 20 + n) size in
+    let end : place_of entries (length entries) ≡ 20 + d = ap (λ (es : List EntryValue). 20 + length (entries_bytes es)) all_of
+    ∙ ap (λ (xs : List ℕ). 20 + length xs) spelled_is ∙ ap (λ (n : ℕ). 20 + n) size in
     record {
       low = omega arith;
       high = omega arith;
@@ -299,7 +304,8 @@ unfolding part
 no_raw bytes h = sym (ap (λ (n : ℕ). take n (drop (raw_offset bytes) bytes)) h)
 
 -- what stands between a place and the end
-pub rest_is : (bytes : List ℕ) (at : ℕ) (entries : List EntryValue) (rest : List ℕ) → length bytes < 2 ^ 64 → 20 + data_length bytes ≤ length bytes → PlaceIs bytes at entries → rest ≡ part bytes at (20 + data_length bytes - at) → RestAt entries at rest
+pub rest_is : (bytes : List ℕ) (at : ℕ) (entries : List EntryValue) (rest : List ℕ) → length bytes < 2 ^ 64 → 20 + data_length bytes ≤ length bytes →
+    PlaceIs bytes at entries → rest ≡ part bytes at (20 + data_length bytes - at) → RestAt entries at rest
 rest_is bytes at entries rest small fits p e =
     let low = p.low in
     let high = p.high in

@@ -17,7 +17,8 @@ use Rattle.ghes_block.proofs.EntryLaws.{stamp_bytes}
 use Rattle.ghes_block.proofs.Blocks.{length-head, head_sizes, head_sized}
 
 -- the head, the timestamp and the data of an entry
-pub wrote_entry : (a b c d : List ℕ) (at m n end : ℕ) (head : EntryHead) (body : List ℕ) → Wrote a b at m (joined (entry_front head (length body))) → Wrote b c m n (stamp_bytes (is_stamped head.revision) head.stamp) → Wrote c d n end body
+pub wrote_entry : (a b c d : List ℕ) (at m n end : ℕ) (head : EntryHead) (body : List ℕ) → Wrote a b at m (joined (entry_front head (length body))) →
+    Wrote b c m n (stamp_bytes (is_stamped head.revision) head.stamp) → Wrote c d n end body
     → Wrote a d at end (entry_bytes (record { head = head; body = body }))
 unfolding entry_bytes
 wrote_entry a b c d at m n end head body x y z =
@@ -38,7 +39,8 @@ pub begins : (before : List ℕ) → 20 ≤ length before → Writing before bef
 unfolding entries_bytes
 begins before h = record { all = All-nil IsEntry; content_is = nothing before 20; end_is = refl; room = h; after = refl }
 
-pub goes_on : (before a b : List ℕ) (given : List EntryValue) (end next : ℕ) (entry : EntryValue) → Writing before a given end → IsEntry entry → Wrote a b end next (entry_bytes entry) → Writing before b (given ++ entry ∷ []) next
+pub goes_on : (before a b : List ℕ) (given : List EntryValue) (end next : ℕ) (entry : EntryValue) → Writing before a given end → IsEntry entry →
+    Wrote a b end next (entry_bytes entry) → Writing before b (given ++ entry ∷ []) next
 goes_on before a b given end next entry w is put =
     let others = wrote_others a b end next (entry_bytes entry) put in
     let there = wrote_there a b end next (entry_bytes entry) put in
@@ -99,7 +101,8 @@ later xs ys n e h =
     ∙ ap (λ (k : ℕ). drop k ys) split
 
 -- the block is whole
-pub ends : (before a b c : List ℕ) (given : List EntryValue) (end size status severity : ℕ) (raw : List ℕ) → Writing before a given end → 0 < status → status < 2 ^ 32 → severity < 2 ^ 32 → end + length raw < 2 ^ 32 → size ≡ end + length raw
+pub ends : (before a b c : List ℕ) (given : List EntryValue) (end size status severity : ℕ) (raw : List ℕ) → Writing before a given end → 0 < status →
+    status < 2 ^ 32 → severity < 2 ^ 32 → end + length raw < 2 ^ 32 → size ≡ end + length raw
     → Wrote a b 0 20 (joined (block_head status (offset_for (length raw) end) (length raw) (end - 20) severity)) → Wrote b c end (end + length raw) raw
     → IsWritten (record { status = status; severity = severity; entries = given; raw = raw; size = size }) end before c
 ends before a b c given end size status severity raw w published small_status small_severity short size_is head put =

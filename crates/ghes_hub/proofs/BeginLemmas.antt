@@ -33,11 +33,13 @@ slice_get-push {X} xs y i x is =
     ]
 
 -- what is written off a layout leaves it
-layout_kept : (layout : Layout) (windows : List Window) (old new : RamState) → AreClear windows (layout_windows layout) → SameWhere (IsOff windows) old new → HasLayout layout old → HasLayout layout new
+layout_kept : (layout : Layout) (windows : List Window) (old new : RamState) → AreClear windows (layout_windows layout) → SameWhere (IsOff windows) old new →
+    HasLayout layout old → HasLayout layout new
 layout_kept (Acknowledged map) windows old new clear s h = (HasWindows-others map old new (same_in_map map windows old new clear s) h.0, h.1)
 layout_kept (Plain map) windows old new clear s h = plain_windows_kept map old new s.windows s.size h
 
-window_kept : (layout : Layout) (windows : List Window) (old new : RamState) → AreClear windows (layout_windows layout) → SameWhere (IsOff windows) old new → layout_window layout new ≡ layout_window layout old
+window_kept : (layout : Layout) (windows : List Window) (old new : RamState) → AreClear windows (layout_windows layout) → SameWhere (IsOff windows) old new →
+    layout_window layout new ≡ layout_window layout old
 window_kept (Acknowledged map) windows old new clear s = s.bytes (Memory map.block) map.len clear.1.1.0
 window_kept (Plain map) windows old new clear s = s.bytes (Memory map.window.block) map.window.len clear.1.0
 
@@ -47,8 +49,10 @@ take_next [] n x is = absurd (let w = slice_get_within [] n x is in omega (arith
 take_next {X} (y ∷ ys) zero x is = let e : y ≡ x = cc in ap (λ (z : X). z ∷ []) e
 take_next {X} (y ∷ ys) (suc n) x is = ap (λ (zs : List X). y ∷ zs) (take_next ys n x is)
 
-pub one_begun : (layouts : List Layout) (first ram new : RamState) (list : List Source) (layout : Layout) (handover : Source) → AreLaidOut layouts first → slice_get layouts (length list) ≡ Some layout →
-    SourceStands handover new (started (layout_window layout ram)) → layout_in handover ≡ layout → layout_kind (layout_in handover) ≡ layout_kind layout → layout_windows (layout_in handover) ≡ layout_windows layout → SameWhere (IsOff (layout_windows layout)) ram new →
+pub one_begun : (layouts : List Layout) (first ram new : RamState) (list : List Source) (layout : Layout) (handover : Source) → AreLaidOut layouts first →
+    slice_get layouts (length list) ≡ Some layout →
+    SourceStands handover new (started (layout_window layout ram)) → layout_in handover ≡ layout → layout_kind (layout_in handover) ≡ layout_kind layout →
+    layout_windows (layout_in handover) ≡ layout_windows layout → SameWhere (IsOff (layout_windows layout)) ram new →
     AreBegun layouts first ram list → AreBegun layouts first new (list ++ handover ∷ [])
 one_begun layouts first ram new list layout handover laid here stands lies kind windows s all = record {
   so_far =

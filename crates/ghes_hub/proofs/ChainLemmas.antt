@@ -1,5 +1,6 @@
 -- Chains of which one is another than before.
-use Rattle.std.proofs.Common.{◌≡◌, ◌≢◌, ◌∙◌, ℕ, zero, suc, ◌<◌, ◌≤◌, Bool, true, false, cond, List, [], ◌∷◌, length, length-append, set, map, get_or, remove, Option, Some, slice_get, IfSome, refl, sym, ap, subst, arith}
+use Rattle.std.proofs.Common.{◌≡◌, ◌≢◌, ◌∙◌, ℕ, zero, suc, ◌<◌, ◌≤◌, Bool, true, false, cond, List, [], ◌∷◌, length, length-append, set, map, get_or, remove}
+use Rattle.std.proofs.Common.{Option, Some, slice_get, IfSome, refl, sym, ap, subst, arith}
 use Rattle.std.specs.List.{AllZip}
 use Rattle.std.specs.Option.{option_map}
 use Rattle.std.proofs.lemmas.Option.{slice_get-map, slice_get_read}
@@ -10,7 +11,8 @@ use Rattle.ghes_hub.proofs.SourceLemmas.{slice_get-same, slice_get-other}
 use Rattle.apei_notify.proofs.ToldLemmas.{told_none}
 
 -- a list of no more items in one place
-pub no_longer : {C L : Type 0} (f : C → List L) (xs : List C) (i : ℕ) (y d : C) → i < length xs → length (f y) ≤ length (f (get_or xs i d)) → length (in_order (map f (set xs i y))) ≤ length (in_order (map f xs))
+pub no_longer : {C L : Type 0} (f : C → List L) (xs : List C) (i : ℕ) (y d : C) → i < length xs → length (f y) ≤ length (f (get_or xs i d)) →
+    length (in_order (map f (set xs i y))) ≤ length (in_order (map f xs))
 no_longer f [] i y d within le = absurd (omega (arith, within))
 no_longer f (x ∷ xs) zero y d within le =
     let a = length-append (f y) (in_order (map f xs)) in

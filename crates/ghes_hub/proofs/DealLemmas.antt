@@ -1,5 +1,6 @@
 -- Listeners dealt out in turn.
-use Rattle.std.proofs.Common.{◌≡◌, ◌≢◌, ◌∙◌, ℕ, zero, suc, ◌+◌, ◌<◌, ◌≤◌, ◌%◌, ◌⊎◌, inl, inr, Bool, cond, List, [], ◌∷◌, ◌++◌, length, length-append, set, get_or, Some, slice_get, Vec, vec_capacity, refl, sym, ap, arith, append_assoc, mod-lt}
+use Rattle.std.proofs.Common.{◌≡◌, ◌≢◌, ◌∙◌, ℕ, zero, suc, ◌+◌, ◌<◌, ◌≤◌, ◌%◌, ◌⊎◌, inl, inr, Bool, cond, List, [], ◌∷◌, ◌++◌, length, length-append, set}
+use Rattle.std.proofs.Common.{get_or, Some, slice_get, Vec, vec_capacity, refl, sym, ap, arith, append_assoc, mod-lt}
 use Rattle.std.specs.declared.alloc.Global.{Global}
 use Rattle.std.proofs.lemmas.Bool.{cases_eq, eq-eqb, ne_eqb}
 use Rattle.std.proofs.lemmas.List.{length-set}
@@ -55,7 +56,8 @@ none_dealt {X} n all lists h = record {
   total = none_in lists h.each;
 }
 
-pub one_dealt : {X : Type 0} (n k : ℕ) (all : List X) (x : X) (rest : List X) (lists : List (Vec X Global)) (old new : Vec X Global) → AreDealt n k all (x ∷ rest) lists → slice_get lists (k % n) ≡ Some old → new.items ≡ old.items ++ x ∷ [] → vec_capacity new ≡ vec_capacity old →
+pub one_dealt : {X : Type 0} (n k : ℕ) (all : List X) (x : X) (rest : List X) (lists : List (Vec X Global)) (old new : Vec X Global) →
+    AreDealt n k all (x ∷ rest) lists → slice_get lists (k % n) ≡ Some old → new.items ≡ old.items ++ x ∷ [] → vec_capacity new ≡ vec_capacity old →
     AreDealt n (k + 1) all rest (set lists (k % n) new)
 one_dealt {X} n k all x rest lists old new h here more same =
     let within = slice_get_within lists (k % n) old here in
@@ -82,9 +84,11 @@ one_dealt {X} n k all x rest lists old new h here more same =
     }
 
 -- there is room for the next one
-pub has_place : {X : Type 0} (n k : ℕ) (all : List X) (x : X) (rest : List X) (lists : List (Vec X Global)) (list : Vec X Global) → AreDealt n k all (x ∷ rest) lists → slice_get lists (k % n) ≡ Some list → length list.items < vec_capacity list
+pub has_place : {X : Type 0} (n k : ℕ) (all : List X) (x : X) (rest : List X) (lists : List (Vec X Global)) (list : Vec X Global) →
+    AreDealt n k all (x ∷ rest) lists → slice_get lists (k % n) ≡ Some list → length list.items < vec_capacity list
 has_place {X} n k all x rest lists list h here =
-    let e : list.items ++ x ∷ dealt_to n (k % n) (k + 1) rest ≡ dealt_to n (k % n) 0 all = ap (λ (xs : List X). list.items ++ xs) (sym (dealt_here n (k % n) k x rest refl)) ∙ h.each (k % n) list here in
+    let e : list.items ++ x ∷ dealt_to n (k % n) (k + 1) rest ≡ dealt_to n (k % n) 0 all = ap (λ (xs : List X). list.items ++ xs)
+    (sym (dealt_here n (k % n) k x rest refl)) ∙ h.each (k % n) list here in
     let l = ap length e in
     let a = length-append list.items (x ∷ dealt_to n (k % n) (k + 1) rest) in
     let few = dealt_few n (k % n) 0 all in
@@ -92,7 +96,8 @@ has_place {X} n k all x rest lists list h here =
     omega (arith, l, a, few, room)
 
 -- the list that is next
-pub list_at : {X : Type 0} (n k : ℕ) (all rest : List X) (lists : List (Vec X Global)) (count : ℕ) (list : Vec X Global) → count ≡ n → 0 < n → AreDealt n k all rest lists → list ≡ get_or lists (k % count) list → slice_get lists (k % n) ≡ Some list
+pub list_at : {X : Type 0} (n k : ℕ) (all rest : List X) (lists : List (Vec X Global)) (count : ℕ) (list : Vec X Global) → count ≡ n → 0 < n →
+    AreDealt n k all rest lists → list ≡ get_or lists (k % count) list → slice_get lists (k % n) ≡ Some list
 list_at n k all rest lists count list same some h is =
     let within : k % n < n = mod-lt k some in
     let c = h.count in

@@ -1,5 +1,6 @@
 -- One source of a hub over lists of calls: what stands between its own changes nothing.
-use Rattle.std.proofs.Common.{◌≡◌, ◌≢◌, ◌∙◌, ℕ, ◌≤◌, inl, inr, Bool, true, false, cond, ◌==◌, List, [], ◌∷◌, ◌++◌, length, remove, Option, Some, None, slice_get, All, refl, sym, ap, subst, arith, length-append}
+use Rattle.std.proofs.Common.{◌≡◌, ◌≢◌, ◌∙◌, ℕ, ◌≤◌, inl, inr, Bool, true, false, cond, ◌==◌, List, [], ◌∷◌, ◌++◌, length, remove, Option, Some, None}
+use Rattle.std.proofs.Common.{slice_get, All, refl, sym, ap, subst, arith, length-append}
 use Rattle.std.proofs.lemmas.Bool.{cases_eq, eq-eqb, ne_eqb}
 use Rattle.std.proofs.lemmas.List.{get_or_at}
 use Rattle.apei_space.specs.RamState.{RamState}
@@ -73,7 +74,8 @@ goes {L} hearing kind j len (Submits i block ∷ calls) first last members w n s
     let chain : slice_get between.chains j ≡ Some members = ap (λ (cs : List (List L)). slice_get cs j) does.chains ∙ is in
     by_test i j (Submit block ∷ steps_at j calls) (steps_at j calls) (λ (steps : List Step). Goes hearing kind j len (left_at j calls members) steps (events_at j calls) last w)
     (λ same.
-    let here : StandsAt kind between.sources j (submitted w.machine block) = subst (λ (k : ℕ). StandsAt kind between.sources k (submitted w.machine block)) same (does.submitted kind w.machine (subst (λ (k : ℕ). StandsAt kind first.sources k w.machine) (sym same) st)) in
+    let here : StandsAt kind between.sources j (submitted w.machine block) = subst (λ (k : ℕ). StandsAt kind between.sources k (submitted w.machine block)) same
+    (does.submitted kind w.machine (subst (λ (k : ℕ). StandsAt kind first.sources k w.machine) (sym same) st)) in
     let rest = goes hearing kind j len calls between last members (after_by kind w (Submit block)) n here chain later in
     let all = (state_at kind between.sources j (submitted w.machine block) here).blocks in
     record {
@@ -88,7 +90,8 @@ goes {L} hearing kind j len (Submits i block ∷ calls) first last members w n s
 goes {L} hearing kind j len (Turns i side event ∷ calls) first last members w n st is (between, does, later) = elim (cases_eq i j) [
   | inl same ↦
       let t : (event ≡ (turned_by kind side w.machine).0) × StandsAt kind between.sources j (turned_by kind side w.machine).1 =
-      subst (λ (k : ℕ). (event ≡ (turned_by kind side w.machine).0) × StandsAt kind between.sources k (turned_by kind side w.machine).1) same (does.turned kind w.machine (subst (λ (k : ℕ). StandsAt kind first.sources k w.machine) (sym same) st)) in
+      subst (λ (k : ℕ). (event ≡ (turned_by kind side w.machine).0) × StandsAt kind between.sources k (turned_by kind side w.machine).1) same
+      (does.turned kind w.machine (subst (λ (k : ℕ). StandsAt kind first.sources k w.machine) (sym same) st)) in
       let m : Machine = (turned_by kind side w.machine).1 in
       let v : Watched = after_by kind w (Turn side) in
       let is_m : v.machine ≡ m = watched_machine w (turned_by kind side w.machine).0 m in
@@ -103,7 +106,8 @@ goes {L} hearing kind j len (Turns i side event ∷ calls) first last members w 
       let told_here : Told hearing told_blocks members tell.0 = subst (λ (bs : List (List ℕ)). Told hearing bs members tell.0) blocks_are tell.2 in
       let rest = goes hearing kind j len calls between last tell.0 v wide here chain later in
       let yes_test : (i == j) ≡ true = eq-eqb i j same in
-      subst (λ (b : Bool). Goes hearing kind j len (left_at j calls members) (cond b (Turn side ∷ steps_at j calls) (steps_at j calls)) (cond b (event ∷ events_at j calls) (events_at j calls)) last w) (sym yes_test) (record {
+      subst (λ (b : Bool). Goes hearing kind j len (left_at j calls members) (cond b (Turn side ∷ steps_at j calls) (steps_at j calls))
+      (cond b (event ∷ events_at j calls) (events_at j calls)) last w) (sym yes_test) (record {
         stands = rest.stands;
         events_are = ap (λ (e : Event). e ∷ events_at j calls) t.0 ∙ ap (λ (es : List Event). (turned_by kind side w.machine).0 ∷ es) rest.events_are;
         fitting = rest.fitting;
@@ -115,7 +119,8 @@ goes {L} hearing kind j len (Turns i side event ∷ calls) first last members w 
   | inr apart ↦
       let no_test : (i == j) ≡ false = ne_eqb i j apart in
       let chain : slice_get between.chains j ≡ Some members = does.other_chains j (λ e. apart (sym e)) ∙ is in
-      subst (λ (b : Bool). Goes hearing kind j len (left_at j calls members) (cond b (Turn side ∷ steps_at j calls) (steps_at j calls)) (cond b (event ∷ events_at j calls) (events_at j calls)) last w) (sym no_test)
+      subst (λ (b : Bool). Goes hearing kind j len (left_at j calls members) (cond b (Turn side ∷ steps_at j calls) (steps_at j calls))
+      (cond b (event ∷ events_at j calls) (events_at j calls)) last w) (sym no_test)
       (goes hearing kind j len calls between last members w n (does.others kind j w.machine (λ e. apart (sym e)) st) chain later)
 ]
 goes {L} hearing kind j len (Removes i at ∷ calls) first last members w n st is (between, does, later) =
@@ -127,7 +132,8 @@ goes {L} hearing kind j len (Removes i at ∷ calls) first last members w n st i
     (λ apart. goes hearing kind j len calls between last members w n here (does.other_chains j (λ e. apart (sym e)) ∙ is) later)
 
 pub serves : {L : Type 0} (hearing : L → Hearing) (source : OpenedSource L) (calls : List Call) (first last : HubState L) →
-    StandsAt source.kind first.sources source.number (started source.window) → slice_get first.chains source.number ≡ Some source.listeners → DoAll hearing calls first last → Serves hearing source calls last
+    StandsAt source.kind first.sources source.number (started source.window) → slice_get first.chains source.number ≡ Some source.listeners →
+    DoAll hearing calls first last → Serves hearing source calls last
 serves hearing source calls first last st is all =
     let kind = source.kind in
     let j = source.number in
@@ -152,7 +158,8 @@ serves hearing source calls first last st is all =
     }
 
 -- the block that a source took is as long as a block's head
-pub took_head : (kind : Kind) (side : Side) (event : Event) (i : ℕ) (old new : SourcesState) (m : Machine) → StandsAt kind old i m → (event ≡ (turned_by kind side m).0) × StandsAt kind new i (turned_by kind side m).1 → takes event ≡ true → 20 ≤ length (last_in new i)
+pub took_head : (kind : Kind) (side : Side) (event : Event) (i : ℕ) (old new : SourcesState) (m : Machine) → StandsAt kind old i m →
+    (event ≡ (turned_by kind side m).0) × StandsAt kind new i (turned_by kind side m).1 → takes event ≡ true → 20 ≤ length (last_in new i)
 took_head kind side event i old new m st t took =
     let head = (took_fits kind (length m.window) side m (state_at kind old i m st) (sym (ap takes t.0) ∙ took)).head in
     let last = ap length (last_at kind new i (turned_by kind side m).1 t.1) in

@@ -92,12 +92,14 @@ mixed (Io a) n (Memory b) m r k e h = absurd e
 abbrev both : Window → Window → Window
 both first second = record { place = first.place; len = first.len + second.len }
 
-off_before : (window new : Window) (windows : List Window) → Adjoins window.place window.len new.place → IsApartFrom window windows → IsOff windows new.place new.len → IsOff windows (both window new).place (both window new).len
+off_before : (window new : Window) (windows : List Window) → Adjoins window.place window.len new.place → IsApartFrom window windows →
+    IsOff windows new.place new.len → IsOff windows (both window new).place (both window new).len
 off_before window new [] e h g = tt
 off_before window new (other ∷ others) e h g =
     (mixed window.place window.len new.place new.len other.place other.len e (inl (h.0, g.0)), off_before window new others e h.1 g.1)
 
-off_behind : (window new : Window) (windows : List Window) → Adjoins new.place new.len window.place → IsApartFrom window windows → IsOff windows new.place new.len → IsOff windows (both new window).place (both new window).len
+off_behind : (window new : Window) (windows : List Window) → Adjoins new.place new.len window.place → IsApartFrom window windows →
+    IsOff windows new.place new.len → IsOff windows (both new window).place (both new window).len
 off_behind window new [] e h g = tt
 off_behind window new (other ∷ others) e h g =
     (mixed new.place new.len window.place window.len other.place other.len e (inr (g.0, h.0)), off_behind window new others e h.1 g.1)
@@ -117,7 +119,9 @@ join_later window windows new h = record { apart = h.apart.2; ends = h.ends; off
 
 -- by the two tests
 step_before : (window : Window) (windows : List Window) (new : Window) → follows window new ≡ true → joins (window ∷ windows) new ≡ joins windows (both window new)
-step_before window windows new e = ap (λ (b : Bool). cond {A = List Window} b (joins windows (both window new)) (cond {A = List Window} (follows new window) (joins windows (both new window)) (window ∷ joins windows new))) e
+step_before window windows new e =
+    ap (λ (b : Bool). cond {A = List Window} b (joins windows (both window new)) (cond {A = List Window} (follows new window) (joins windows (both new window))
+    (window ∷ joins windows new))) e
 
 step_behind : (window : Window) (windows : List Window) (new : Window) → follows window new ≡ false → follows new window ≡ true → joins (window ∷ windows) new ≡ joins windows (both new window)
 step_behind window windows new e f =
@@ -131,16 +135,21 @@ step_later window windows new e f =
 
 -- what holds of each of the three steps holds of the whole
 pub by_steps : (P : List Window → Window → List Window → Type 0) → ((new : Window) → P [] new (new ∷ [])) →
-    ((window : Window) (windows : List Window) (new : Window) (out : List Window) → follows window new ≡ true → MayJoin (window ∷ windows) new → P windows (both window new) out → P (window ∷ windows) new out) →
-    ((window : Window) (windows : List Window) (new : Window) (out : List Window) → follows new window ≡ true → MayJoin (window ∷ windows) new → P windows (both new window) out → P (window ∷ windows) new out) →
-    ((window : Window) (windows : List Window) (new : Window) (out : List Window) → IsApart window.place window.len new.place new.len → MayJoin (window ∷ windows) new → P windows new out → P (window ∷ windows) new (window ∷ out)) →
+    ((window : Window) (windows : List Window) (new : Window) (out : List Window) → follows window new ≡ true → MayJoin (window ∷ windows) new →
+    P windows (both window new) out → P (window ∷ windows) new out) →
+    ((window : Window) (windows : List Window) (new : Window) (out : List Window) → follows new window ≡ true → MayJoin (window ∷ windows) new →
+    P windows (both new window) out → P (window ∷ windows) new out) →
+    ((window : Window) (windows : List Window) (new : Window) (out : List Window) → IsApart window.place window.len new.place new.len →
+    MayJoin (window ∷ windows) new → P windows new out → P (window ∷ windows) new (window ∷ out)) →
     (windows : List Window) (new : Window) → MayJoin windows new → P windows new (joins windows new)
 by_steps P none before behind later [] new h = none new
 by_steps P none before behind later (window ∷ windows) new h = go (follows window new) (follows new window) refl refl
     (λ e. by_steps P none before behind later windows (both window new) (join_before window windows new e h))
     (λ f. by_steps P none before behind later windows (both new window) (join_behind window windows new f h))
     (by_steps P none before behind later windows new (join_later window windows new h)) where
-      go : (a b : Bool) → follows window new ≡ a → follows new window ≡ b → (follows window new ≡ true → P windows (both window new) (joins windows (both window new))) → (follows new window ≡ true → P windows (both new window) (joins windows (both new window))) →
+      go : (a b : Bool) → follows window new ≡ a → follows new window ≡ b →
+          (follows window new ≡ true → P windows (both window new) (joins windows (both window new))) →
+          (follows new window ≡ true → P windows (both new window) (joins windows (both new window))) →
           P windows new (joins windows new) → P (window ∷ windows) new (joins (window ∷ windows) new)
       go true b e f one two three = subst (P (window ∷ windows) new) (sym (step_before window windows new e)) (before window windows new (joins windows (both window new)) e h (one e))
       go false true e f one two three = subst (P (window ∷ windows) new) (sym (step_behind window windows new e f)) (behind window windows new (joins windows (both new window)) f h (two f))
@@ -231,7 +240,8 @@ joins_sums = by_steps Sums
 pub may_join : (earlier windows : List Window) (range : Window) (ranges : List Window) → AreFree earlier (range ∷ ranges) → AreJoined earlier windows → MayJoin windows range
 may_join earlier windows range ranges free h = record { apart = h.apart; ends = free.1; off = h.off range.place range.len free.0 free.2 }
 
-pub one_joined : (earlier windows : List Window) (range : Window) (ranges : List Window) → AreFree earlier (range ∷ ranges) → AreJoined earlier windows → AreJoined (range ∷ earlier) (joins windows range)
+pub one_joined : (earlier windows : List Window) (range : Window) (ranges : List Window) → AreFree earlier (range ∷ ranges) → AreJoined earlier windows →
+    AreJoined (range ∷ earlier) (joins windows range)
 one_joined earlier windows range ranges free h =
     let may = may_join earlier windows range ranges free h in
     record {
@@ -248,7 +258,8 @@ mapped_append [] ys p h = inr h
 mapped_append (x ∷ xs) ys p (inl here) = inl (inl here)
 mapped_append (x ∷ xs) ys p (inr later) = elim (mapped_append xs ys p later) [ inl a ↦ inl (inr a) | inr b ↦ inr b ]
 
-pub mapped_more : (ranges : List Window) (at : ℕ) (range : Window) (earlier : List Window) → at < length ranges → range ≡ get_or ranges at range → ((p : Place) → IsMapped (take at ranges) p → IsMapped earlier p) →
+pub mapped_more : (ranges : List Window) (at : ℕ) (range : Window) (earlier : List Window) → at < length ranges → range ≡ get_or ranges at range →
+    ((p : Place) → IsMapped (take at ranges) p → IsMapped earlier p) →
     (p : Place) → IsMapped (take (at + 1) ranges) p → IsMapped (range ∷ earlier) p
 mapped_more ranges at range earlier within is h p mapped =
     let split : take (at + 1) ranges ≡ take at ranges ++ range ∷ [] = take_more ranges at range within ∙ ap (λ (x : Window). take at ranges ++ x ∷ []) (sym is) in

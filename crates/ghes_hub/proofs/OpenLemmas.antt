@@ -1,5 +1,6 @@
 -- A hub that is opened.
-use Rattle.std.proofs.Common.{◌≡◌, ◌∙◌, ℕ, zero, suc, ◌+◌, ◌^◌, ◌<◌, inl, inr, Bool, true, false, not, nat_lt, ◌||◌, ◌&&◌, List, [], ◌∷◌, ◌++◌, length, Some, slice_get, Vec, refl, sym, ap, subst, arith, append_assoc}
+use Rattle.std.proofs.Common.{◌≡◌, ◌∙◌, ℕ, zero, suc, ◌+◌, ◌^◌, ◌<◌, inl, inr, Bool, true, false, not, nat_lt, ◌||◌, ◌&&◌, List, [], ◌∷◌, ◌++◌, length, Some}
+use Rattle.std.proofs.Common.{slice_get, Vec, refl, sym, ap, subst, arith, append_assoc}
 use Rattle.std.specs.Option.{option_map}
 use Rattle.std.proofs.lemmas.Bool.{cases_lt}
 use Rattle.std.proofs.lemmas.Bool.Decides.{nat_tests}
@@ -29,7 +30,8 @@ some_at [] i within = absurd (omega (arith, within))
 some_at (x ∷ xs) zero within = (x, refl)
 some_at (x ∷ xs) (suc i) within = some_at xs i (omega (arith, within))
 
-pub opened : {L : Type 0} (sources : List HestSource) (s new : SourcesState) (all : List L) (n k : ℕ) (lists : List (Vec L Global)) (chains : List (List L)) → IsReady sources s → new ≡ s → n ≡ length s.list → AreDealt n k all [] lists → chains ≡ map (λ list. list.items) lists →
+pub opened : {L : Type 0} (sources : List HestSource) (s new : SourcesState) (all : List L) (n k : ℕ) (lists : List (Vec L Global)) (chains : List (List L)) →
+    IsReady sources s → new ≡ s → n ≡ length s.list → AreDealt n k all [] lists → chains ≡ map (λ list. list.items) lists →
     IsOpened sources all (record { sources = new; chains = chains })
 opened {L} sources s new all n k lists chains ready same count dealt chains_are = subst (λ (x : SourcesState). IsOpened sources all (record { sources = x; chains = chains })) (sym same) (record {
   ready = ready;
@@ -38,11 +40,13 @@ opened {L} sources s new all n k lists chains ready same count dealt chains_are 
       let c = dealt.count in
       let at = some_at lists i (omega (arith, within, count, c)) in
       let got : at.0.items ≡ dealt_to n i 0 all = sym (append-nil at.0.items) ∙ dealt.each i at.0 at.1 in
-      ap (λ (xs : List (List L)). slice_get xs i) chains_are ∙ slice_get-map (λ list. list.items) lists i ∙ ap (option_map (λ list. list.items)) at.1 ∙ ap Some (got ∙ ap (λ (j : ℕ). dealt_to j i 0 all) count);
+      ap (λ (xs : List (List L)). slice_get xs i) chains_are ∙ slice_get-map (λ list. list.items) lists i ∙ ap (option_map (λ list. list.items)) at.1
+      ∙ ap Some (got ∙ ap (λ (j : ℕ). dealt_to j i 0 all) count);
 })
 
 -- each source is served from the opening on
-pub from_opening : {L : Type 0} (hearing : L → Hearing) (table : List HestSource) (listeners : List L) (i : ℕ) (source : Ghes) (calls : List Call) (first last : HubState L) → IsOpened table listeners first → slice_get (generics table) i ≡ Some source → DoAll hearing calls first last →
+pub from_opening : {L : Type 0} (hearing : L → Hearing) (table : List HestSource) (listeners : List L) (i : ℕ) (source : Ghes) (calls : List Call)
+    (first last : HubState L) → IsOpened table listeners first → slice_get (generics table) i ≡ Some source → DoAll hearing calls first last →
     Serves hearing (opened_source listeners first i source) calls last
 from_opening hearing table listeners i source calls first last opened is all =
     let w = slice_get_within (generics table) i source is in
@@ -57,11 +61,19 @@ neither true b e = absurd cc
 disjoint_is : (p : Place) (n : ℕ) (q : Place) (m : ℕ) → overlap_at p n q m ≡ false → AreDisjoint q m p n
 disjoint_is (Memory a) n (Memory b) m e = elim (cases_lt b (a + n)) [
   | inr behind ↦ inr behind
-  | inl before ↦ elim (cases_lt a (b + m)) [ inr h ↦ inl h | inl h ↦ absurd (let one : nat_lt b (a + n) ≡ true = grind (arith, nat_tests) in let two : nat_lt a (b + m) ≡ true = grind (arith, nat_tests) in let f = sym (ap (λ (t : Bool). t && nat_lt a (b + m)) one ∙ two) ∙ e in cc) ]
+  | inl before ↦ elim (cases_lt a (b + m)) [
+    | inr h ↦ inl h
+    | inl h ↦ absurd (let one : nat_lt b (a + n) ≡ true = grind (arith, nat_tests) in
+        let two : nat_lt a (b + m) ≡ true = grind (arith, nat_tests) in let f = sym (ap (λ (t : Bool). t && nat_lt a (b + m)) one ∙ two) ∙ e in cc)
+  ]
 ]
 disjoint_is (Io a) n (Io b) m e = elim (cases_lt b (a + n)) [
   | inr behind ↦ inr behind
-  | inl before ↦ elim (cases_lt a (b + m)) [ inr h ↦ inl h | inl h ↦ absurd (let one : nat_lt b (a + n) ≡ true = grind (arith, nat_tests) in let two : nat_lt a (b + m) ≡ true = grind (arith, nat_tests) in let f = sym (ap (λ (t : Bool). t && nat_lt a (b + m)) one ∙ two) ∙ e in cc) ]
+  | inl before ↦ elim (cases_lt a (b + m)) [
+    | inr h ↦ inl h
+    | inl h ↦ absurd (let one : nat_lt b (a + n) ≡ true = grind (arith, nat_tests) in
+        let two : nat_lt a (b + m) ≡ true = grind (arith, nat_tests) in let f = sym (ap (λ (t : Bool). t && nat_lt a (b + m)) one ∙ two) ∙ e in cc)
+  ]
 ]
 disjoint_is (Memory a) n (Io b) m e = tt
 disjoint_is (Io a) n (Memory b) m e = tt
@@ -102,5 +114,6 @@ pub clashes-append : (front xs ys : List Window) → clashes front xs ≡ false 
 clashes-append front [] ys e f = subst (λ (ws : List Window). clashes ws ys ≡ false) (append-nil front) f
 clashes-append front (x ∷ xs) ys e f =
     let h = neither (not (nat_lt (address_of x.place + x.len) (2 ^ 64)) || overlaps front x) (clashes (front ++ x ∷ []) xs) e in
-    let rest : clashes (front ++ x ∷ []) (xs ++ ys) ≡ false = clashes-append (front ++ x ∷ []) xs ys h.1 (subst (λ (ws : List Window). clashes ws ys ≡ false) (sym (append_assoc front (x ∷ []) xs)) f) in
+    let rest : clashes (front ++ x ∷ []) (xs ++ ys) ≡ false = clashes-append (front ++ x ∷ []) xs ys h.1 (subst (λ (ws : List Window). clashes ws ys ≡ false)
+    (sym (append_assoc front (x ∷ []) xs)) f) in
     ap (λ (b : Bool). b || clashes (front ++ x ∷ []) (xs ++ ys)) h.0 ∙ rest

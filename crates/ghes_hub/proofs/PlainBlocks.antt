@@ -36,9 +36,11 @@ fills_hand b t block bytes ram new out is more memory =
     memory ∙ ap (λ (x : List ℕ). with_block t.map.window ram (with_piece (block_bytes t.map.window ram) x t.filled)) is
     ∙ ap (λ (k : ℕ). with_block t.map.window ram (with_piece (block_bytes t.map.window ram) block.items k)) f
     ∙ ap (λ (at : PlainMap). with_block at.window ram (with_piece (block_bytes at.window ram) block.items b.filled)) out.same.map in
-    Fills block.items (map (λ v. v.items) t.waiting.items) out.held (omega (arith, more, f)) refl (sym (in_hand b t block Filling (b.filled + 1) (t.filled + 1) out (ap (λ (k : ℕ). k + 1) (sym f)))) memory_b
+    Fills block.items (map (λ v. v.items) t.waiting.items) out.held (omega (arith, more, f)) refl
+    (sym (in_hand b t block Filling (b.filled + 1) (t.filled + 1) out (ap (λ (k : ℕ). k + 1) (sym f)))) memory_b
 
-pub publishes_hand : (b t : Blocks PlainMap) (block : Vec ℕ Global) (bytes : List ℕ) (ram new : RamState) → TakesOut plain_window_of b t block → bytes ≡ block.items → length block.items ≤ 64 * t.filled →
+pub publishes_hand : (b t : Blocks PlainMap) (block : Vec ℕ Global) (bytes : List ℕ) (ram new : RamState) → TakesOut plain_window_of b t block →
+    bytes ≡ block.items → length block.items ≤ 64 * t.filled →
     new ≡ with_block t.map.window ram (with_status (block_bytes t.map.window ram) (take 4 bytes)) →
     FirmwareMakes (state_of Filling b) ram Publish (state_of Published (record t { at_work = Some block; filled = 0 })) new
 publishes_hand b t block bytes ram new out is none memory =
@@ -49,7 +51,8 @@ publishes_hand b t block bytes ram new out is none memory =
     Publishes block.items (map (λ v. v.items) t.waiting.items) out.held (omega (arith, none, f)) refl (sym (in_hand b t block Published 0 0 out refl)) memory_b
 
 -- the block at work is free
-pub frees_at : (b : Blocks PlainMap) (ram : RamState) → b.at_work ≡ None → (m : Machine) → PlainStands (state_of Acknowledged b) ram m → Turns Firmware Free (over (state_of Acknowledged b) ram) (over (state_of Filling b) ram) m
+pub frees_at : (b : Blocks PlainMap) (ram : RamState) → b.at_work ≡ None → (m : Machine) → PlainStands (state_of Acknowledged b) ram m →
+    Turns Firmware Free (over (state_of Acknowledged b) ram) (over (state_of Filling b) ram) m
 frees_at b ram none m st =
     let h = state_of Acknowledged b in
     let same : in_work Acknowledged b.at_work b.last ≡ in_work Filling b.at_work b.last =
@@ -77,7 +80,8 @@ pub takes_at : (b after : Blocks PlainMap) (block : Vec ℕ Global) (bytes copie
 takes_at b after block bytes copied ram some is more all memory long is_after =
     let work : in_work Reading b.at_work b.last ≡ Some block.items = ap (λ (o : Option (Vec ℕ Global)). in_work Reading o b.last) some in
     Takes block.items work more all refl
-    (ap (state_of Reading) is_after ∙ ap (λ (x : List ℕ). record (state_of Reading b) { at_work = Some x; copied = b.copied + 1; last = x }) (copied_items b block bytes copied ram is memory long)) refl
+    (ap (state_of Reading) is_after ∙ ap (λ (x : List ℕ). record (state_of Reading b) { at_work = Some x; copied = b.copied + 1; last = x })
+    (copied_items b block bytes copied ram is memory long)) refl
 
 pub clears_at : (b : Blocks PlainMap) (rest : Option (Vec ℕ Global)) (ram new : RamState) → b.at_work ≡ None → rest ≡ None → IsCopiedSoFar b.copied b.at_work b.last →
     new ≡ with_block b.map.window ram (with_status (block_bytes b.map.window ram) (spelled 4 0)) → ReaderMakes (state_of Reading b) ram Clear (state_of Acknowledged (record b { at_work = rest })) new
@@ -89,8 +93,11 @@ clears_at b rest ram new none gone far memory =
 pub idles_at : (b new : Blocks PlainMap) (ram : RamState) → HoldsNone plain_window_of b new → FirmwareMakes (state_of Filling b) ram Idle (state_of Filling new) ram
 idles_at b new ram none = Idles none.held refl (none_in_hand b new none) refl
 
-pub finds_at : (b : Blocks PlainMap) (ram : RamState) → count_of b.at_work ≡ 1 → (m : Machine) → PlainStands (state_of Published b) ram m → Turns Reader Found (over (state_of Published b) ram) (over (state_of Reading (record b { copied = 0 })) ram) m
-finds_at b ram one m st = subst (λ (o : Option (List ℕ)). Turns Reader Found (over (state_of Published b) ram) (over (record (state_of Published b) { situation = Reading; copied = 0; at_work = o }) ram) m) (same b.at_work one) (finds (state_of Published b) ram m refl st) where
-  same : (o : Option (Vec ℕ Global)) → count_of o ≡ 1 → in_work Published o b.last ≡ in_work Reading o b.last
-  same (Some block) e = refl
-  same None e = absurd (omega (arith, e))
+pub finds_at : (b : Blocks PlainMap) (ram : RamState) → count_of b.at_work ≡ 1 → (m : Machine) → PlainStands (state_of Published b) ram m →
+    Turns Reader Found (over (state_of Published b) ram) (over (state_of Reading (record b { copied = 0 })) ram) m
+finds_at b ram one m st = subst (λ (o : Option (List ℕ)). Turns Reader Found (over (state_of Published b) ram)
+    (over (record (state_of Published b) { situation = Reading; copied = 0; at_work = o }) ram) m) (same b.at_work one)
+    (finds (state_of Published b) ram m refl st) where
+      same : (o : Option (Vec ℕ Global)) → count_of o ≡ 1 → in_work Published o b.last ≡ in_work Reading o b.last
+      same (Some block) e = refl
+      same None e = absurd (omega (arith, e))

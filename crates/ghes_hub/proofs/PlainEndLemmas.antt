@@ -31,17 +31,22 @@ use Rattle.ghes_hub.proofs.PlainBlocks.{frees_at, finds_at}
 use Rattle.ghes_ack.specs.Windows.{block_status}
 
 -- each side can make a turn
-firmware_able : (firmware : FirmwareEnd) (reader : ReaderEnd) (b : Blocks PlainMap) (ram : RamState) → IsConsistent (record { firmware = firmware; reader = reader }) b → Stands (handover_of (record { firmware = firmware; reader = reader }) b) ram → FirmwareIsAble firmware b ram
+firmware_able : (firmware : FirmwareEnd) (reader : ReaderEnd) (b : Blocks PlainMap) (ram : RamState) →
+    IsConsistent (record { firmware = firmware; reader = reader }) b → Stands (handover_of (record { firmware = firmware; reader = reader }) b) ram →
+    FirmwareIsAble firmware b ram
 firmware_able (Writes write) reader b ram all (m, st) =
     (all.sound, st.windows, subst (All (Fits b.map.window.len)) (sym st.blocks) (All-drop (Fits b.map.window.len) m.acknowledged m.blocks st.state.blocks))
 firmware_able (Waits wait) reader b ram all (m, st) = st.windows
 
 -- the block that the reader copies fits
-fitting_work : (b : Blocks PlainMap) (ram : RamState) (m : Machine) (work : Option (Vec ℕ Global)) → b.at_work ≡ work → PlainStands (state_of Reading b) ram m → IfSome work (λ block. length block.items ≤ b.map.window.len)
+fitting_work : (b : Blocks PlainMap) (ram : RamState) (m : Machine) (work : Option (Vec ℕ Global)) → b.at_work ≡ work → PlainStands (state_of Reading b) ram m →
+    IfSome work (λ block. length block.items ≤ b.map.window.len)
 fitting_work b ram m None is st = tt
 fitting_work b ram m (Some block) is st = (work_fits (state_of Reading b) ram m block.items (ap (λ (o : Option (Vec ℕ Global)). in_work Reading o b.last) is) st).fits
 
-reader_able : (firmware : FirmwareEnd) (reader : ReaderEnd) (b : Blocks PlainMap) (ram : RamState) → IsConsistent (record { firmware = firmware; reader = reader }) b → Stands (handover_of (record { firmware = firmware; reader = reader }) b) ram → ReaderIsAble reader b ram
+reader_able : (firmware : FirmwareEnd) (reader : ReaderEnd) (b : Blocks PlainMap) (ram : RamState) →
+    IsConsistent (record { firmware = firmware; reader = reader }) b → Stands (handover_of (record { firmware = firmware; reader = reader }) b) ram →
+    ReaderIsAble reader b ram
 reader_able (Writes write) (Looks look) b ram all (m, st) = st.windows
 reader_able (Waits wait) (Looks look) b ram all (m, st) = st.windows
 reader_able (Writes write) (Reads read) b ram all stands = absurd all.apart
@@ -74,7 +79,8 @@ record IsReturned (write : FirmwareEnd) (reader : ReaderEnd) (b : Blocks PlainMa
   apart : AreApart write reader
   turns : Turns Firmware Free (over (state_of s b) ram) (over (state_of Filling b) ram) m
 
-returned : (write : FirmwareEnd) (reader : ReaderEnd) (b : Blocks PlainMap) (ram : RamState) (work : Option (Vec ℕ Global)) → b.at_work ≡ work → block_status b.map.window ram ≡ 0 → (m : Machine) → PlainStands (state_of (waiting_at reader work) b) ram m →
+returned : (write : FirmwareEnd) (reader : ReaderEnd) (b : Blocks PlainMap) (ram : RamState) (work : Option (Vec ℕ Global)) → b.at_work ≡ work →
+    block_status b.map.window ram ≡ 0 → (m : Machine) → PlainStands (state_of (waiting_at reader work) b) ram m →
     IsReturned write reader b ram m (waiting_at reader work)
 returned (Writes write) (Looks look) b ram None is none m st = record { apart = tt; turns = frees_at b ram is m st }
 returned (Waits wait) (Looks look) b ram None is none m st = record { apart = tt; turns = frees_at b ram is m st }
@@ -119,7 +125,8 @@ firmware_done (Waits wait) (Waits later) reader b new ram memory event all stand
       turns = λ m st. waits_by (state_of (waiting_at reader b.at_work) b) ram m (waiting_at reader b.at_work) refl found.0 st;
     })
 
-nothing_by : (firmware : FirmwareEnd) (b : Blocks PlainMap) (ram : RamState) (work : Option (Vec ℕ Global)) → block_status b.map.window ram ≡ 0 → (m : Machine) → PlainStands (state_of (situation_at firmware work) b) ram m →
+nothing_by : (firmware : FirmwareEnd) (b : Blocks PlainMap) (ram : RamState) (work : Option (Vec ℕ Global)) → block_status b.map.window ram ≡ 0 →
+    (m : Machine) → PlainStands (state_of (situation_at firmware work) b) ram m →
     Turns Reader Nothing (over (state_of (situation_at firmware work) b) ram) (over (state_of (situation_at firmware work) b) ram) m
 nothing_by (Writes write) b ram work none m st = finds_nothing (state_of Filling b) ram m (inl refl) st
 nothing_by (Waits wait) b ram None none m st = finds_nothing (state_of Acknowledged b) ram m (inr refl) st
@@ -131,7 +138,8 @@ record IsFound (firmware : FirmwareEnd) (read : ReaderEnd) (b : Blocks PlainMap)
   far : IsCopiedSoFar 0 b.at_work b.last
   turns : Turns Reader Found (over (state_of s b) ram) (over (state_of Reading (record b { copied = 0 })) ram) m
 
-found_by : (firmware : FirmwareEnd) (read : ReaderEnd) (b : Blocks PlainMap) (ram : RamState) (work : Option (Vec ℕ Global)) → b.at_work ≡ work → 0 < block_status b.map.window ram → (m : Machine) → PlainStands (state_of (situation_at firmware work) b) ram m →
+found_by : (firmware : FirmwareEnd) (read : ReaderEnd) (b : Blocks PlainMap) (ram : RamState) (work : Option (Vec ℕ Global)) → b.at_work ≡ work →
+    0 < block_status b.map.window ram → (m : Machine) → PlainStands (state_of (situation_at firmware work) b) ram m →
     IsFound firmware read b ram m (situation_at firmware work)
 found_by (Writes write) read b ram work is some m st = absurd (let none = no_status (state_of Filling b) ram m (inl refl) st in omega (arith, some, none))
 found_by (Waits wait) read b ram None is some m st = absurd (let none = no_status (state_of Acknowledged b) ram m (inr refl) st in omega (arith, some, none))
@@ -169,7 +177,8 @@ reader_done (Waits wait) (Looks look) (Looks later) b new ram memory event all s
     })
 reader_done (Writes write) (Looks look) (Reads read) b new ram memory event all (m, st) (found, is_memory) = absurd (found_by (Writes write) (Reads read) b ram b.at_work refl found.0 m st).apart
 reader_done (Waits wait) (Looks look) (Reads read) b new ram memory event all (m, st) (found, is_memory) =
-    same_done Reader event Found (record { firmware = Waits wait; reader = Looks look }) (record { firmware = Waits wait; reader = Reads read }) b new (record b { copied = 0 }) ram memory ram found.1 found.2 is_memory
+    same_done Reader event Found (record { firmware = Waits wait; reader = Looks look }) (record { firmware = Waits wait; reader = Reads read }) b new
+    (record b { copied = 0 }) ram memory ram found.1 found.2 is_memory
     (record {
       consistent = record { apart = tt; sound = at_first (looking_at b.at_work) b all.sound (found_by (Waits wait) (Reads read) b ram b.at_work refl found.0 m st).far };
       turns = λ n stands. (found_by (Waits wait) (Reads read) b ram b.at_work refl found.0 n stands).turns;
@@ -179,7 +188,8 @@ reader_done (Waits wait) (Reads read) (Looks look) b new ram memory event all st
     let is : Acknowledged ≡ looking_at new.at_work = returned_at new.at_work makes.0.under_way in
     record {
       consistent = record { apart = tt; sound = subst (λ (s : Situation). IsSound s new) is makes.0 };
-      turns = λ m st. subst (λ (s : Situation). Turns Reader event (over (state_of Reading b) ram) (over (state_of s new) memory) m) is (reader_made (state_of Reading b) (state_of Acknowledged new) ram memory event m refl makes.1 st);
+      turns = λ m st. subst (λ (s : Situation). Turns Reader event (over (state_of Reading b) ram) (over (state_of s new) memory) m) is
+          (reader_made (state_of Reading b) (state_of Acknowledged new) ram memory event m refl makes.1 st);
     }
 reader_done (Waits wait) (Reads read) (Reads later) b new ram memory event all stands makes = record {
   consistent = record { apart = tt; sound = makes.0 };
@@ -190,7 +200,8 @@ reader_done (Waits wait) (Reads read) (Acknowledges end) b new ram memory event 
 reader_done firmware (Acknowledges acknowledge) end b new ram memory event all stands makes = absurd makes
 
 -- whichever side it was, the other one is where it was
-side_done : (side : Side) (ends next : Ends) (b new : Blocks PlainMap) (ram memory : RamState) (event : Event) → IsConsistent ends b → Stands (handover_of ends b) ram → SideTurns side ends (over b ram) event next (over new memory) →
+side_done : (side : Side) (ends next : Ends) (b new : Blocks PlainMap) (ram memory : RamState) (event : Event) → IsConsistent ends b →
+    Stands (handover_of ends b) ram → SideTurns side ends (over b ram) event next (over new memory) →
     SideDone side event ends next b new ram memory
 side_done Firmware ends next b new ram memory event all stands (turns, same) =
     subst (λ (reader : ReaderEnd). SideDone Firmware event ends (record { firmware = next.firmware; reader = reader }) b new ram memory) (sym same)
@@ -200,7 +211,8 @@ side_done Reader ends next b new ram memory event all stands (turns, same) =
     (reader_done ends.firmware ends.reader next.reader b new ram memory event all stands turns)
 
 -- the same of a handover whose sides were taken out of their place
-module _ (side : Side) (place : Option Ends) (ends : Ends) (b : Blocks PlainMap) (h : PlainState) (ram : RamState) (taken : place ≡ Some ends) (all : AreConsistent place b) (seen : view_of place b ≡ h) where
+module _ (side : Side) (place : Option Ends) (ends : Ends) (b : Blocks PlainMap) (h : PlainState) (ram : RamState) (taken : place ≡ Some ends)
+    (all : AreConsistent place b) (seen : view_of place b ≡ h) where
   at_hand : AreConsistent (Some ends) b
   at_hand = subst (λ (o : Option Ends). AreConsistent o b) taken all
 

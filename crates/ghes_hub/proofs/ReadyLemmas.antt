@@ -56,14 +56,16 @@ clear_of : (windows earlier ws : List Window) → AreFree earlier ws → ((at : 
 clear_of windows earlier [] free more = tt
 clear_of windows earlier (w ∷ ws) free more = (more w.place w.len free.2, clear_of windows (w ∷ earlier) ws free.3 (λ at n off. more at n off.1))
 
-free_before : (earlier : List Window) (layouts : List Layout) (i j : ℕ) (one other : Layout) → i < j → AreFree earlier (all_windows layouts) → slice_get layouts i ≡ Some one → slice_get layouts j ≡ Some other → AreClear (layout_windows one) (layout_windows other)
+free_before : (earlier : List Window) (layouts : List Layout) (i j : ℕ) (one other : Layout) → i < j → AreFree earlier (all_windows layouts) →
+    slice_get layouts i ≡ Some one → slice_get layouts j ≡ Some other → AreClear (layout_windows one) (layout_windows other)
 free_before earlier [] i j one other less free is_i is_j = absurd cc
 free_before earlier (first ∷ layouts) i zero one other less free is_i is_j = absurd (omega (arith, less))
 free_before earlier (first ∷ layouts) zero (suc j) one other less free is_i is_j =
     let e : first ≡ one = (let s : Some first ≡ Some one = is_i in cc) in
     let s = free_split earlier (layout_windows first) (all_windows layouts) free in
     let r = free_at s.behind layouts j other s.rest is_j in
-    subst (λ (l : Layout). AreClear (layout_windows l) (layout_windows other)) e (clear_of (layout_windows first) r.before (layout_windows other) r.free (λ at n off. (s.more at n (r.more at n off)).0))
+    subst (λ (l : Layout). AreClear (layout_windows l) (layout_windows other)) e (clear_of (layout_windows first) r.before (layout_windows other) r.free
+    (λ at n off. (s.more at n (r.more at n off)).0))
 free_before earlier (first ∷ layouts) (suc i) (suc j) one other less free is_i is_j =
     let s = free_split earlier (layout_windows first) (all_windows layouts) free in
     free_before s.behind layouts i j one other (omega (arith, less)) s.rest is_i is_j
@@ -83,7 +85,8 @@ clear_sym ws [] h = none ws where
   none (x ∷ xs) = (tt, none xs)
 clear_sym ws (x ∷ xs) h = clear_more x xs ws (clear_one x ws h.0) (clear_sym ws xs h.1)
 
-pub free_apart : (layouts : List Layout) (i j : ℕ) (one other : Layout) → i ≢ j → AreFree [] (all_windows layouts) → slice_get layouts i ≡ Some one → slice_get layouts j ≡ Some other → AreClear (layout_windows one) (layout_windows other)
+pub free_apart : (layouts : List Layout) (i j : ℕ) (one other : Layout) → i ≢ j → AreFree [] (all_windows layouts) → slice_get layouts i ≡ Some one →
+    slice_get layouts j ≡ Some other → AreClear (layout_windows one) (layout_windows other)
 free_apart layouts i j one other differ free is_i is_j = elim (cases_lt i j) [
   | inl less ↦ free_before [] layouts i j one other less free is_i is_j
   | inr not_less ↦
@@ -117,18 +120,21 @@ pub record Covers (layouts : List Layout) (ram : RamState) : Type 0 where
   pub fills : FillsWindows ram
   pub mapped : (at : Place) → IsMapped (all_windows layouts) at → IsMapped ram.windows at
 
-pub plain_has : (layouts : List Layout) (ram : RamState) (i : ℕ) (map : PlainMap) → Covers layouts ram → AreFree [] (all_windows layouts) → slice_get layouts i ≡ Some (Plain map) → 20 ≤ map.window.len → HasAddressed map.status map.window ram
+pub plain_has : (layouts : List Layout) (ram : RamState) (i : ℕ) (map : PlainMap) → Covers layouts ram → AreFree [] (all_windows layouts) →
+    slice_get layouts i ≡ Some (Plain map) → 20 ≤ map.window.len → HasAddressed map.status map.window ram
 plain_has layouts ram i map covers free is room =
     let f = (free_at [] layouts i (Plain map) free is).free in
     record {
       head = room;
       fills = covers.fills;
       status = λ k h. covers.mapped (further (Memory map.status) k) (mapped_in layouts i (Plain map) is (further (Memory map.status) k) (inl (held_further (Memory map.status) 8 k h)));
-      block = λ k h. covers.mapped (further (Memory map.window.block) k) (mapped_in layouts i (Plain map) is (further (Memory map.window.block) k) (inr (inl (held_further (Memory map.window.block) map.window.len k h))));
+      block = λ k h. covers.mapped (further (Memory map.window.block) k) (mapped_in layouts i (Plain map) is (further (Memory map.window.block) k)
+          (inr (inl (held_further (Memory map.window.block) map.window.len k h))));
       status_block = disjoint_sym (Memory map.window.block) map.window.len (Memory map.status) 8 f.3.2.0;
     }
 
-pub acknowledged_has : (layouts : List Layout) (ram : RamState) (i : ℕ) (map : HandoverMap) → Covers layouts ram → AreFree [] (all_windows layouts) → slice_get layouts i ≡ Some (Acknowledged map) → 20 ≤ map.len → HasWindows map ram
+pub acknowledged_has : (layouts : List Layout) (ram : RamState) (i : ℕ) (map : HandoverMap) → Covers layouts ram → AreFree [] (all_windows layouts) →
+    slice_get layouts i ≡ Some (Acknowledged map) → 20 ≤ map.len → HasWindows map ram
 acknowledged_has layouts ram i map covers free is room =
     let f = (free_at [] layouts i (Acknowledged map) free is).free in
     let m : (at : Place) → IsMapped (layout_windows (Acknowledged map)) at → IsMapped ram.windows at = λ at h. covers.mapped at (mapped_in layouts i (Acknowledged map) is at h) in

@@ -1,5 +1,6 @@
 -- What it says that no source is refused.
-use Rattle.std.proofs.Common.{◌≡◌, ◌≢◌, ◌∙◌, ℕ, zero, suc, ◌+◌, ◌-◌, ◌*◌, ◌/◌, ◌^◌, ◌%◌, ◌<◌, ◌≤◌, ◌==◌, Bool, true, false, cond, not, nat_lt, ◌||◌, ◌&&◌, List, [], ◌∷◌, ◌++◌, length, replicate, take, Option, Some, None, Result, Ok, Err, slice_get, refl, sym, ap, subst, arith}
+use Rattle.std.proofs.Common.{◌≡◌, ◌≢◌, ◌∙◌, ℕ, zero, suc, ◌+◌, ◌-◌, ◌*◌, ◌/◌, ◌^◌, ◌%◌, ◌<◌, ◌≤◌, ◌==◌, Bool, true, false, cond, not, nat_lt, ◌||◌, ◌&&◌, List}
+use Rattle.std.proofs.Common.{[], ◌∷◌, ◌++◌, length, replicate, take, Option, Some, None, Result, Ok, Err, slice_get, refl, sym, ap, subst, arith}
 use Rattle.std.proofs.lemmas.Bool.Decides.{nat_tests}
 use Rattle.std.proofs.lemmas.List.{drop-replicate, take-replicate, length-replicate, take_all}
 use Rattle.std.proofs.lemmas.Option.{slice_get_within}
@@ -49,7 +50,8 @@ none_refused None false e later is = (refl, refl, is)
 none_refused None true e later is = absurd cc
 none_refused (Some why) clash e later is = absurd cc
 
-tests_none : (a b c : Bool) (x y z : HubError) → cond {A = Option HubError} a (Some x) (cond {A = Option HubError} b (Some y) (cond {A = Option HubError} c (Some z) None)) ≡ None → (a ≡ false) × (b ≡ false) × (c ≡ false)
+tests_none : (a b c : Bool) (x y z : HubError) → cond {A = Option HubError} a (Some x)
+    (cond {A = Option HubError} b (Some y) (cond {A = Option HubError} c (Some z) None)) ≡ None → (a ≡ false) × (b ≡ false) × (c ≡ false)
 tests_none false false false x y z e = (refl, refl, refl)
 tests_none false false true x y z e = absurd cc
 tests_none false true c x y z e = absurd cc
@@ -74,7 +76,8 @@ either_false true b e = absurd cc
 
 pub checked_is : (i : ℕ) (source : Ghes) → source_refusal i source ≡ None → Checked source
 checked_is i source e =
-    let t = tests_none (nat_lt source.block_len 20 || nat_lt 4096 source.block_len) (not (is_status (checked source.status))) (not (has_ack source.ack)) (BlockLen i source.block_len) (Status i) (BadAck i) e in
+    let t = tests_none (nat_lt source.block_len 20 || nat_lt 4096 source.block_len) (not (is_status (checked source.status))) (not (has_ack source.ack))
+    (BlockLen i source.block_len) (Status i) (BadAck i) e in
     let l = either_false (nat_lt source.block_len 20) (nat_lt 4096 source.block_len) t.0 in
     let l0 = l.0 in
     let l1 = l.1 in
@@ -112,28 +115,40 @@ pub record Sound (earlier : List Window) (i : ℕ) (sources : List Ghes) : Type 
   pub clash : clashes earlier (all_windows (layouts_from i sources)) ≡ false
   pub bytes : HaveBytes (all_windows (layouts_from i sources))
   pub few : total (all_windows (layouts_from i sources)) ≤ 4112 * length sources
-  pub each : (k : ℕ) (layout : Layout) → slice_get (layouts_from i sources) k ≡ Some layout → (source : Ghes) × (slice_get sources k ≡ Some source) × (layout ≡ layout_of (i + k) source) × Checked source
+  pub each : (k : ℕ) (layout : Layout) → slice_get (layouts_from i sources) k ≡ Some layout → (source : Ghes) × (slice_get sources k ≡ Some source) ×
+      (layout ≡ layout_of (i + k) source) × Checked source
 
 pub sound : (earlier : List Window) (i : ℕ) (sources : List Ghes) → sources_refusal earlier i sources ≡ None → Sound earlier i sources
 sound earlier i [] none = record { clash = refl; bytes = tt; few = omega arith; each = λ k layout is. absurd cc }
 sound earlier i (source ∷ sources) none =
-    let no = none_refused (source_refusal i source) (clashes earlier (layout_windows (layout_of i source))) (Clash i) (sources_refusal (earlier ++ layout_windows (layout_of i source)) (i + 1) sources) none in
+    let no = none_refused (source_refusal i source) (clashes earlier (layout_windows (layout_of i source))) (Clash i)
+    (sources_refusal (earlier ++ layout_windows (layout_of i source)) (i + 1) sources) none in
     let here = checked_is i source no.0 in
     let rest = sound (earlier ++ layout_windows (layout_of i source)) (i + 1) sources no.2 in
     record {
       clash = clashes-append earlier (layout_windows (layout_of i source)) (all_windows (layouts_from (i + 1) sources)) no.1 rest.clash;
       bytes = bytes-append (layout_windows (layout_of i source)) (all_windows (layouts_from (i + 1) sources)) (have_bytes i source source.ack here.low) rest.bytes;
-      few = let a = total-append (layout_windows (layout_of i source)) (all_windows (layouts_from (i + 1) sources)) in let b = few_bytes i source source.ack here.high in let c = rest.few in omega (arith, a, b, c);
+      few = let a = total-append (layout_windows (layout_of i source)) (all_windows (layouts_from (i + 1) sources)) in let b =
+          few_bytes i source source.ack here.high in let c = rest.few in omega (arith, a, b, c);
       each = λ k layout is. at k layout is here rest;
     } where
-      at : (k : ℕ) (layout : Layout) → slice_get (layouts_from i (source ∷ sources)) k ≡ Some layout → Checked source → Sound (earlier ++ layout_windows (layout_of i source)) (i + 1) sources → (s : Ghes) × (slice_get (source ∷ sources) k ≡ Some s) × (layout ≡ layout_of (i + k) s) × Checked s
-      at zero layout is here rest = (source, refl, (let e : Some (layout_of i source) ≡ Some layout = is in let f : layout_of i source ≡ layout = cc in sym f ∙ ap (λ (n : ℕ). layout_of n source) (omega arith)), here)
+      at : (k : ℕ) (layout : Layout) → slice_get (layouts_from i (source ∷ sources)) k ≡ Some layout → Checked source →
+          Sound (earlier ++ layout_windows (layout_of i source)) (i + 1) sources → (s : Ghes) × (slice_get (source ∷ sources) k ≡ Some s) ×
+          (layout ≡ layout_of (i + k) s) × Checked s
+      at zero layout is here rest = (
+        source,
+        refl,
+        (let e : Some (layout_of i source) ≡ Some layout = is in let f : layout_of i source ≡ layout = cc in
+            sym f ∙ ap (λ (n : ℕ). layout_of n source) (omega arith)),
+        here,
+      )
       at (suc k) layout is here rest = let r = rest.each k layout is in (r.0, r.1, r.2 ∙ ap (λ (n : ℕ). layout_of n r.0) (omega arith), r.3)
 
 -- the acknowledge bits
 register_is : (gas : Gas) (register : Register) → checked gas ≡ Ok register → register ≡ register_of gas
 register_is gas register e = go (nat_lt 1 gas.space) (nat_lt 4 gas.access) (gas.width == 0 || nat_lt 64 (gas.offset + gas.width)) e where
-  go : (a b c : Bool) → cond {A = Result Register BadRegister} a (Err (Space gas.space)) (cond {A = Result Register BadRegister} b (Err (Access gas.access)) (cond {A = Result Register BadRegister} c (Err (Bits gas.offset gas.width)) (Ok (register_of gas)))) ≡ Ok register → register ≡ register_of gas
+  go : (a b c : Bool) → cond {A = Result Register BadRegister} a (Err (Space gas.space)) (cond {A = Result Register BadRegister} b (Err (Access gas.access))
+      (cond {A = Result Register BadRegister} c (Err (Bits gas.offset gas.width)) (Ok (register_of gas)))) ≡ Ok register → register ≡ register_of gas
   go false false false e = cc
   go false false true e = absurd cc
   go false true c e = absurd cc
@@ -169,8 +184,10 @@ ack_bits gas (Ok register) write is e =
       product_some zero b h k = absurd (omega (arith, h))
       product_some a zero h k = absurd (omega (arith, k))
 
-has_layout : (layouts : List Layout) (ram : RamState) (i n : ℕ) (source : Ghes) (ack : Option Ack) → Covers layouts ram → AreFree [] (all_windows layouts) → slice_get layouts i ≡ Some (layout_by n source ack) → 20 ≤ source.block_len → has_ack ack ≡ true → HasLayout (layout_by n source ack) ram
-has_layout layouts ram i n source None covers free is low good = plain_has layouts ram i (record { status = source.status.address; window = record { block = _; len = source.block_len } }) covers free is low
+has_layout : (layouts : List Layout) (ram : RamState) (i n : ℕ) (source : Ghes) (ack : Option Ack) → Covers layouts ram → AreFree [] (all_windows layouts) →
+    slice_get layouts i ≡ Some (layout_by n source ack) → 20 ≤ source.block_len → has_ack ack ≡ true → HasLayout (layout_by n source ack) ram
+has_layout layouts ram i n source None covers free is low good =
+    plain_has layouts ram i (record { status = source.status.address; window = record { block = _; len = source.block_len } }) covers free is low
 has_layout layouts ram i n source (Some ack) covers free is low good =
     let b = ack_bits ack.register (checked ack.register) ack.write refl good in
     (acknowledged_has layouts ram i _ covers free is low, record { some = b.0; inside = b.1 })
@@ -209,7 +226,8 @@ blank_layout i source (Some ack) ram blank h = let head = h.0.head in blank_wind
 
 layout_at : (i : ℕ) (sources : List Ghes) (k : ℕ) (source : Ghes) → slice_get sources k ≡ Some source → slice_get (layouts_from i sources) k ≡ Some (layout_of (i + k) source)
 layout_at i [] k source is = absurd cc
-layout_at i (s ∷ sources) zero source is = let e : s ≡ source = (let both : Some s ≡ Some source = is in cc) in ap (λ (x : Ghes). Some (layout_of i x)) e ∙ ap (λ (n : ℕ). Some (layout_of n source)) (omega arith)
+layout_at i (s ∷ sources) zero source is = let e : s ≡ source = (let both : Some s ≡ Some source = is in cc) in ap (λ (x : Ghes). Some (layout_of i x)) e
+    ∙ ap (λ (n : ℕ). Some (layout_of n source)) (omega arith)
 layout_at i (s ∷ sources) (suc k) source is = layout_at (i + 1) sources k source is ∙ ap (λ (n : ℕ). Some (layout_of n source)) (omega arith)
 
 layouts_long : (i : ℕ) (sources : List Ghes) → length (layouts_from i sources) ≡ length sources
@@ -221,7 +239,8 @@ some_post [] i within = absurd (omega (arith, within))
 some_post (x ∷ xs) zero within = (x, refl)
 some_post (x ∷ xs) (suc i) within = some_post xs i (omega (arith, within))
 
-pub is_ready : (table : List HestSource) (first ram : RamState) (list : List Source) (layouts : List Layout) → layouts ≡ layouts_from 0 (generics table) → sources_refusal [] 0 (generics table) ≡ None → length (generics table) ≢ 0 → length (generics table) ≤ 16 →
+pub is_ready : (table : List HestSource) (first ram : RamState) (list : List Source) (layouts : List Layout) → layouts ≡ layouts_from 0 (generics table) →
+    sources_refusal [] 0 (generics table) ≡ None → length (generics table) ≢ 0 → length (generics table) ≤ 16 →
     IsBlank first → AreLaidOut (layouts_from 0 (generics table)) first → length list ≡ length layouts → AreBegun layouts first ram list → IsReady table (record { ram = ram; list = list })
 is_ready table first ram list layouts are none some few blank laid count begun =
     let gens : List Ghes = generics table in
@@ -238,7 +257,8 @@ is_ready table first ram list layouts are none some few blank laid count begun =
           let handover = some_post list i (omega (arith, count, m, n, within)) in
           let b = begun.begun i handover.0 handover.1 in
           let same : b.layout ≡ layout_of i source = (let both = sym b.is ∙ ap (λ (ls : List Layout). slice_get ls i) are ∙ here in cc) in
-          let bytes : layout_window b.layout first ≡ zeros source.block_len = ap (λ (l : Layout). layout_window l first) same ∙ blank_layout i source source.ack first blank (laid.each i (layout_of i source) here) in
+          let bytes : layout_window b.layout first ≡ zeros source.block_len = ap (λ (l : Layout). layout_window l first) same ∙ blank_layout i source source.ack
+          first blank (laid.each i (layout_of i source) here) in
           record {
             handover = handover.0;
             is = handover.1;
@@ -247,7 +267,9 @@ is_ready table first ram list layouts are none some few blank laid count begun =
           };
     }
 
-pub covers_is : (layouts : List Layout) (ram : RamState) (windows ranges : List Window) (n : ℕ) → ram ≡ record { windows = windows; bytes = replicate (total windows) 0; waited = 0 } → AreApart windows → ranges ≡ all_windows layouts → ((at : Place) → IsMapped ranges at → IsMapped windows at) → Covers layouts ram
+pub covers_is : (layouts : List Layout) (ram : RamState) (windows ranges : List Window) (n : ℕ) →
+    ram ≡ record { windows = windows; bytes = replicate (total windows) 0; waited = 0 } → AreApart windows → ranges ≡ all_windows layouts →
+    ((at : Place) → IsMapped ranges at → IsMapped windows at) → Covers layouts ram
 covers_is layouts ram windows ranges n is apart are mapped = subst (Covers layouts) (sym is) (record {
   fills = record { apart = apart; as_long = sym (length-replicate (total windows) 0) };
   mapped = λ at h. mapped at (subst (λ (ws : List Window). IsMapped ws at) (sym are) h);

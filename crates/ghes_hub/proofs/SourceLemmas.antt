@@ -1,5 +1,6 @@
 -- What a call on one source leaves of the others.
-use Rattle.std.proofs.Common.{◌≡◌, ◌≢◌, ◌∙◌, ℕ, zero, suc, ◌<◌, inl, inr, List, [], ◌∷◌, map, length, set, get_or, Option, Some, Result, Ok, Err, OnOk, OnErr, IfSome, slice_get, refl, sym, ap, subst, arith}
+use Rattle.std.proofs.Common.{◌≡◌, ◌≢◌, ◌∙◌, ℕ, zero, suc, ◌<◌, inl, inr, List, [], ◌∷◌, map, length, set, get_or, Option, Some, Result, Ok, Err, OnOk, OnErr}
+use Rattle.std.proofs.Common.{IfSome, slice_get, refl, sym, ap, subst, arith}
 use Rattle.std.proofs.lemmas.Bool.{cases_lt, cases_eq}
 use Rattle.std.proofs.lemmas.List.{get_or-set_same, get_or-set_other, length-set}
 use Rattle.std.proofs.lemmas.Option.{slice_get_past, slice_get_read, slice_get-get_or, slice_get_within}
@@ -51,13 +52,15 @@ same_in_map map windows old new clear s = record {
   block = s.bytes (Memory map.block) map.len clear.1.1.0;
 }
 
-kept_by : (h : PlainState) (windows : List Window) (old new : RamState) (m : Machine) → AreClear windows (layout_windows (WithStatus h.map)) → SameWhere (IsOff windows) old new → PlainStands h old m → PlainStands h new m
+kept_by : (h : PlainState) (windows : List Window) (old new : RamState) (m : Machine) → AreClear windows (layout_windows (WithStatus h.map)) →
+    SameWhere (IsOff windows) old new → PlainStands h old m → PlainStands h new m
 kept_by h windows old new m clear s st =
     stands_by h new (block_bytes h.map.window old) m (agrees h old m st) (sym (s.bytes (Memory h.map.window.block) h.map.window.len clear.1.0))
     (plain_windows_kept h.map old new s.windows s.size st.windows) (ap little (s.bytes (Memory h.map.status) 8 clear.0) ∙ st.address) st.occurs
 
 -- what is written off the windows of a source leaves it
-pub source_kept : (q : Source) (windows : List Window) (old new : RamState) (m : Machine) → AreClear windows (layout_windows (layout_in q)) → SameWhere (IsOff windows) old new → SourceStands q old m → SourceStands q new m
+pub source_kept : (q : Source) (windows : List Window) (old new : RamState) (m : Machine) → AreClear windows (layout_windows (layout_in q)) →
+    SameWhere (IsOff windows) old new → SourceStands q old m → SourceStands q new m
 source_kept (Acknowledged h) windows old new m clear s st = StandsFor-others h old new m (same_in_map h.map windows old new clear s) st
 source_kept (Plain h) windows old new m clear s st = kept_by h windows old new m clear s st
 
@@ -78,7 +81,8 @@ windows_at ram new list i before after h j q is = elim (cases_eq j i) [
   | inr other ↦ (q, sym (slice_get-other list i j after other) ∙ is, refl)
 ]
 
-pub served : (ram new : RamState) (list : List Source) (i : ℕ) (before after : Source) → Moves ram new list i before after → ((m : Machine) × SourceStands after new m) → AreServed ram list → AreServed new (set list i after)
+pub served : (ram new : RamState) (list : List Source) (i : ℕ) (before after : Source) → Moves ram new list i before after →
+    ((m : Machine) × SourceStands after new m) → AreServed ram list → AreServed new (set list i after)
 served ram new list i before after h stands all = record {
   stands = λ j q is. elim (cases_eq j i) [
     | inl same ↦
@@ -134,7 +138,8 @@ submits_at ram list i before after block h stands kind m at =
       stands = stands ram m (subst (λ (p : Source). SourceStands p ram m) e at.stands);
     }
 
-pub moves : (s : SourcesState) (ram new : RamState) (list : List Source) (i : ℕ) (before after : Source) → record { ram = ram; list = list } ≡ s → i < length s.list → before ≡ get_or list i before → layout_in after ≡ layout_in before → SameWhere (IsOff (layout_windows (layout_in before))) ram new →
+pub moves : (s : SourcesState) (ram new : RamState) (list : List Source) (i : ℕ) (before after : Source) → record { ram = ram; list = list } ≡ s →
+    i < length s.list → before ≡ get_or list i before → layout_in after ≡ layout_in before → SameWhere (IsOff (layout_windows (layout_in before))) ram new →
     Moves ram new list i before after
 moves s ram new list i before after view within is places elsewhere =
     let here : i < length list = subst (λ (x : SourcesState). i < length x.list) (sym view) within in
@@ -144,12 +149,14 @@ pub of_view : (kind : Kind) (s t : SourcesState) (i : ℕ) (m : Machine) → t �
 of_view kind s t i m view at = subst (λ (x : SourcesState). StandsAt kind x i m) (sym view) at
 
 -- a source after a submission that may have been refused
-pub stands_after : {A E : Type 0} (r : Result A E) (ram : RamState) (before after : Source) (block : List ℕ) → OnOk r ((any : RamState) (m : Machine) → SourceStands before any m → SourceStands after any (submitted m block)) → OnErr r (after ≡ before) →
+pub stands_after : {A E : Type 0} (r : Result A E) (ram : RamState) (before after : Source) (block : List ℕ) →
+    OnOk r ((any : RamState) (m : Machine) → SourceStands before any m → SourceStands after any (submitted m block)) → OnErr r (after ≡ before) →
     ((m : Machine) × SourceStands before ram m) → ((m : Machine) × SourceStands after ram m)
 stands_after (Ok a) ram before after block added kept (m, st) = (submitted m block, added ram m st)
 stands_after (Err e) ram before after block added kept st = subst (λ (p : Source). ((m : Machine) × SourceStands p ram m)) (sym kept) st
 
-pub stands_here : (ram : RamState) (list : List Source) (i : ℕ) (p : Source) (m : Machine) → slice_get list i ≡ Some p → SourceStands p ram m → StandsAt (layout_kind (layout_in p)) (record { ram = ram; list = list }) i m
+pub stands_here : (ram : RamState) (list : List Source) (i : ℕ) (p : Source) (m : Machine) → slice_get list i ≡ Some p → SourceStands p ram m →
+    StandsAt (layout_kind (layout_in p)) (record { ram = ram; list = list }) i m
 stands_here ram list i p m is st = record { handover = p; is = is; kind_is = refl; stands = st }
 
 pub if_some : {X : Type 0} (o : Option X) (x : X) (P : X → Type 0) → o ≡ Some x → P x → IfSome o P
@@ -161,5 +168,6 @@ set_same {X} {Y} f (z ∷ zs) zero x y is e = let same : x ≡ z = cc in ap (λ 
 set_same {X} {Y} f (z ∷ zs) (suc i) x y is e = ap (λ (ws : List Y). f z ∷ ws) (set_same f zs i x y is e)
 
 -- all sources lie where they lay
-pub same_layouts : (ram new : RamState) (list : List Source) (i : ℕ) (before after : Source) (s : SourcesState) → Moves ram new list i before after → record { ram = ram; list = list } ≡ s → map layout_in (set list i after) ≡ layouts_in s
+pub same_layouts : (ram new : RamState) (list : List Source) (i : ℕ) (before after : Source) (s : SourcesState) → Moves ram new list i before after →
+    record { ram = ram; list = list } ≡ s → map layout_in (set list i after) ≡ layouts_in s
 same_layouts ram new list i before after s h view = set_same layout_in list i before after h.is h.places ∙ ap layouts_in view

@@ -1,5 +1,6 @@
 -- A boot error region at any moment.
-use Rattle.std.proofs.Common.{◌≡◌, ◌∙◌, ℕ, zero, suc, ◌+◌, ◌-◌, ◌*◌, ◌<◌, ◌≤◌, ◌⊎◌, inl, inr, min, Bool, true, false, ◌||◌, ◌==◌, nat_lt, if◌then◌else◌, List, [], ◌∷◌, ◌++◌, length, take, All, refl, sym, ap, subst, arith}
+use Rattle.std.proofs.Common.{◌≡◌, ◌∙◌, ℕ, zero, suc, ◌+◌, ◌-◌, ◌*◌, ◌<◌, ◌≤◌, ◌⊎◌, inl, inr, min, Bool, true, false, ◌||◌, ◌==◌, nat_lt, if◌then◌else◌, List}
+use Rattle.std.proofs.Common.{[], ◌∷◌, ◌++◌, length, take, All, refl, sym, ap, subst, arith}
 use Rattle.std.proofs.lemmas.Bool.{cases_lt, cases_eq, eq-eqb}
 use Rattle.std.proofs.lemmas.Grind.{common_steps}
 use Rattle.std.proofs.lemmas.List.{length-take, take-replicate}
@@ -15,7 +16,8 @@ use Rattle.ghes_port.specs.declared.boot.BootStage.TheVariants.{Clear, Rest, Fil
 use Rattle.ghes_port.specs.Machine.{piece_at, piece_of}
 use Rattle.ghes_port.specs.Memories.{bytes_from, with_byte, with_bytes}
 use Rattle.ghes_port.specs.Readers.{memory_after}
-use Rattle.ghes_port.specs.Boot.{BootState, told_at, stage_after, end_after, IsReached, IsBoot, BootWorld, laid_after, BootHappens, Lays, Accesses, Elsewhere, BootLeads, Stays, Then, IsBootFirst, IsCleared, lost_from, MayBeLeft}
+use Rattle.ghes_port.specs.Boot.{BootState, told_at, stage_after, end_after, IsReached, IsBoot, BootWorld, laid_after, BootHappens, Lays, Accesses, Elsewhere}
+use Rattle.ghes_port.specs.Boot.{BootLeads, Stays, Then, IsBootFirst, IsCleared, lost_from, MayBeLeft}
 use Rattle.ghes_port.proofs.MemoryLemmas.{far_byte, same_byte, other_byte, far, length-bytes_from, two}
 use Rattle.ghes_port.proofs.TogetherLemmas.{one_more, rest_length, shown_block, front, is_more, is_less}
 use Rattle.ghes_port.proofs.TableLemmas.{structures_more}

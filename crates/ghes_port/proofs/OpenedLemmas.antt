@@ -1,5 +1,6 @@
 -- Sources that are opened together.
-use Rattle.std.proofs.Common.{◌≡◌, ◌≢◌, ℕ, zero, suc, ◌+◌, ◌-◌, ◌*◌, ◌%◌, ◌<◌, ◌≤◌, ◌^◌, inl, inr, Bool, true, false, ◌&&◌, ◌||◌, ◌==◌, not, nat_lt, if◌then◌else◌, Option, Some, None, Result, Ok, Err, List, [], ◌∷◌, ◌++◌, length, map, refl, subst, arith, slice_get, All}
+use Rattle.std.proofs.Common.{◌≡◌, ◌≢◌, ℕ, zero, suc, ◌+◌, ◌-◌, ◌*◌, ◌%◌, ◌<◌, ◌≤◌, ◌^◌, inl, inr, Bool, true, false, ◌&&◌, ◌||◌, ◌==◌, not, nat_lt}
+use Rattle.std.proofs.Common.{if◌then◌else◌, Option, Some, None, Result, Ok, Err, List, [], ◌∷◌, ◌++◌, length, map, refl, subst, arith, slice_get, All}
 use Rattle.std.proofs.lemmas.Bool.{cases_lt}
 use Rattle.std.proofs.lemmas.Grind.{common_steps}
 use Rattle.apei_tables.specs.declared.registers.Register.{Register}
@@ -16,7 +17,9 @@ use Rattle.ghes_port.specs.declared.errors.OpenError.TheVariants.{AddressRegiste
 use Rattle.ghes_port.specs.Places.{index_of, octets}
 use Rattle.ghes_port.specs.Machine.{SourceState, address_number}
 use Rattle.ghes_port.specs.Sound.{HasBits, IsPlaced, IsSource}
-use Rattle.ghes_port.specs.Setups.{first, begun, map_of, ack_of, structure_fault, size_fault, register_fault, address_fault, ack_fault, lies_within, place_fault, setup_fault, pair_fault, earlier_fault, setups_fault, cross, address_crosses, ack_crosses, is_late, ack_is_late, are_aligned, ends_late, meets_itself, meets, ack_meets, maps_meet}
+use Rattle.ghes_port.specs.Setups.{first, begun, map_of, ack_of, structure_fault, size_fault, register_fault, address_fault, ack_fault, lies_within}
+use Rattle.ghes_port.specs.Setups.{place_fault, setup_fault, pair_fault, earlier_fault, setups_fault, cross, address_crosses, ack_crosses, is_late, ack_is_late}
+use Rattle.ghes_port.specs.Setups.{are_aligned, ends_late, meets_itself, meets, ack_meets, maps_meet}
 use Rattle.ghes_port.specs.Readers.{IsApart, IsAckApart}
 use Rattle.ghes_port.proofs.BesideLemmas.{off_of, none_left, none_right}
 use Rattle.ghes_port.proofs.RegisterLemmas.{has_bits, fits_field, found, inside_is, is_below}

@@ -1,5 +1,6 @@
 -- Whatever happens to a source, a memory and a guest.
-use Rattle.std.proofs.Common.{◌≡◌, ◌∙◌, ℕ, zero, suc, ◌+◌, ◌-◌, ◌*◌, ◌<◌, ◌≤◌, inl, inr, Bool, true, false, if◌then◌else◌, ◌==◌, Option, Some, None, Ok, List, [], ◌∷◌, ◌++◌, length, take, drop, All, bit_and, bit_or, refl, sym, ap, subst, arith, length-append, append_assoc}
+use Rattle.std.proofs.Common.{◌≡◌, ◌∙◌, ℕ, zero, suc, ◌+◌, ◌-◌, ◌*◌, ◌<◌, ◌≤◌, inl, inr, Bool, true, false, if◌then◌else◌, ◌==◌, Option, Some, None, Ok, List}
+use Rattle.std.proofs.Common.{[], ◌∷◌, ◌++◌, length, take, drop, All, bit_and, bit_or, refl, sym, ap, subst, arith, length-append, append_assoc}
 use Rattle.std.proofs.lemmas.Bool.{eq-eqb, ne_eqb, cases_lt}
 use Rattle.std.proofs.lemmas.List.{take-append-drop, take-append-le, drop-append-le, length-take, length-drop}
 use Rattle.base_model.specs.Bytes.{little, part, spelled}
@@ -13,10 +14,14 @@ use Rattle.ghes_port.specs.Places.{index_of, octets}
 use Rattle.ghes_port.specs.Memories.{bytes_from, with_bytes}
 use Rattle.ghes_port.specs.Machine.{SourceState, told, told_at, after, submitted, frees, stage_after, queue_after, ack_asked, piece_at, IsGood}
 use Rattle.ghes_port.specs.Sound.{IsPlaced, HasBits, IsSource}
-use Rattle.ghes_port.specs.Readers.{IsRead, notices_of, waited_for, IsNotified, Reader, Looks, Copies, Owes, Answers, World, memory_after, status_at, number_in, address_in, answered, emptied, IsBegun, Happens, Submits, Accesses, GuestLooks, GuestCopies, GuestTakes, GuestAsks, GuestAnswers, Elsewhere, SameAck, SameParts, Leads, Stays, Then, IsAckApart, IsApart, IsFirst, IsPrefix, AreOff, IsBusy, HasAnswered}
+use Rattle.ghes_port.specs.Readers.{IsRead, notices_of, waited_for, IsNotified, Reader, Looks, Copies, Owes, Answers, World, memory_after, status_at, number_in}
+use Rattle.ghes_port.specs.Readers.{address_in, answered, emptied, IsBegun, Happens, Submits, Accesses, GuestLooks, GuestCopies, GuestTakes, GuestAsks}
+use Rattle.ghes_port.specs.Readers.{GuestAnswers, Elsewhere, SameAck, SameParts, Leads, Stays, Then, IsAckApart, IsApart, IsFirst, IsPrefix, AreOff, IsBusy}
+use Rattle.ghes_port.specs.Readers.{HasAnswered}
 use Rattle.ghes_port.proofs.MemoryLemmas.{far, length-bytes_from, two}
 use Rattle.ghes_port.proofs.WidthLemmas.{spelled_off, swapped, set_back}
-use Rattle.ghes_port.proofs.TogetherLemmas.{acked, IsClear, AreFilled, AreSoFar, AreAll, IsShown, IsTaken, IsOut, IsIn, AreTogether, status_is, front, hidden, front_off, short_off, asked_keeps, freed_is, accessed}
+use Rattle.ghes_port.proofs.TogetherLemmas.{acked, IsClear, AreFilled, AreSoFar, AreAll, IsShown, IsTaken, IsOut, IsIn, AreTogether, status_is, front, hidden}
+use Rattle.ghes_port.proofs.TogetherLemmas.{front_off, short_off, asked_keeps, freed_is, accessed}
 use Rattle.ghes_port.proofs.AddressLemmas.{IsAddressed, address_accessed, address_same, address_is}
 use Rattle.ghes_port.proofs.NoticeLemmas.{notified}
 use Rattle.ghes_port.proofs.SourceLemmas.{source_after, source_more}

@@ -1,5 +1,6 @@
 -- The bytes of the tables.
-use Rattle.std.proofs.Common.{◌≡◌, ◌∙◌, ℕ, suc, ◌+◌, ◌%◌, ◌^◌, ◌<◌, List, [], ◌∷◌, ◌++◌, length, get_or, take, drop, map, refl, sym, ap, subst, arith, append_assoc, append-nil, length-append, take-append-drop, drop-cons, lit<}
+use Rattle.std.proofs.Common.{◌≡◌, ◌∙◌, ℕ, suc, ◌+◌, ◌%◌, ◌^◌, ◌<◌, List, [], ◌∷◌, ◌++◌, length, get_or, take, drop, map, refl, sym, ap, subst, arith}
+use Rattle.std.proofs.Common.{append_assoc, append-nil, length-append, take-append-drop, drop-cons, lit<}
 use Rattle.std.specs.Prelude.{sum, codes, All, replicate}
 use Rattle.std.proofs.lemmas.List.{length-map, take_more, map-append}
 use Rattle.ghes_ack.proofs.RoomLemmas.{All-more}

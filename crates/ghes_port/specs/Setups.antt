@@ -13,7 +13,8 @@ use Rattle.ghes_port.specs.declared.maps.AckRegister.{AckRegister as AckMap}
 use Rattle.ghes_port.specs.declared.setups.Setup.{Setup}
 use Rattle.ghes_port.specs.declared.stages.Stage.TheVariants.{Hide}
 use Rattle.ghes_port.specs.declared.errors.OpenError.{OpenError}
-use Rattle.ghes_port.specs.declared.errors.OpenError.TheVariants.{Count, Reserved, Preallocation, Notification, Length, Places, AddressRegister, Address, AckRegister, Mask, Zero, Alignment, Late, Clash, Id, Memory}
+use Rattle.ghes_port.specs.declared.errors.OpenError.TheVariants.{Count, Reserved, Preallocation, Notification, Length, Places, AddressRegister, Address}
+use Rattle.ghes_port.specs.declared.errors.OpenError.TheVariants.{AckRegister, Mask, Zero, Alignment, Late, Clash, Id, Memory}
 use Rattle.ghes_port.specs.Places.{index_of, octets}
 use Rattle.ghes_port.specs.Machine.{SourceState}
 

@@ -54,7 +54,8 @@ abbrev behind_header : List ℕ → Option TableError → Option HestError
 behind_header table None = counted_wrong (number_at table 36 4) (source_count table)
 behind_header table (Some error) = Some (Table error)
 
-pub refusal_is : (bytes : List ℕ) (header : Header) (table : List ℕ) → FindsTable signature 40 bytes header table → table_refusal signature 40 bytes ≡ None → refusal bytes ≡ counted_wrong (number_at table 36 4) (source_count table)
+pub refusal_is : (bytes : List ℕ) (header : Header) (table : List ℕ) → FindsTable signature 40 bytes header table → table_refusal signature 40 bytes ≡ None →
+    refusal bytes ≡ counted_wrong (number_at table 36 4) (source_count table)
 refusal_is bytes header table found none =
     let size : number_at bytes 4 4 ≡ length table = size-front bytes table (drop (length table) bytes) (split bytes header table found) found.is_table.sealed in
     let same : take (number_at bytes 4 4) bytes ≡ table = ap (λ (n : ℕ). take n bytes) size ∙ sym found.prefix in
@@ -82,7 +83,8 @@ not_refused bytes sources n h is =
     ∙ right_count (number_at table 36 4) (length sources) (source_count table) c.count is.count
 
 -- two such tables that stand first are one
-pub same_table : (bytes : List ℕ) (sources others : List HestSource) (n m : ℕ) → n ≤ length bytes → m ≤ length bytes → IsHest sources (take n bytes) → IsHest others (take m bytes) → (sources ≡ others) × (n ≡ m)
+pub same_table : (bytes : List ℕ) (sources others : List HestSource) (n m : ℕ) → n ≤ length bytes → m ≤ length bytes → IsHest sources (take n bytes) →
+    IsHest others (take m bytes) → (sources ≡ others) × (n ≡ m)
 same_table bytes sources others n m h k is also =
     let long : length (take n bytes) ≡ n = length-take n bytes ∙ omega arith in
     let wide : length (take m bytes) ≡ m = length-take m bytes ∙ omega arith in

@@ -1,5 +1,6 @@
 -- The length of a structure, and the source that it is.
-use Rattle.std.proofs.Common.{◌≡◌, ℕ, ◌+◌, ◌*◌, ◌<◌, ◌≤◌, inl, inr, Bool, true, false, cond, List, ◌++◌, length, take, drop, Option, Some, None, Result, Ok, Err, refl, sym, ap, subst, ◌∙◌, arith, length-append}
+use Rattle.std.proofs.Common.{◌≡◌, ℕ, ◌+◌, ◌*◌, ◌<◌, ◌≤◌, inl, inr, Bool, true, false, cond, List, ◌++◌, length, take, drop, Option, Some, None, Result, Ok}
+use Rattle.std.proofs.Common.{Err, refl, sym, ap, subst, ◌∙◌, arith, length-append}
 use Rattle.std.specs.Prelude.{◌==◌, ◌||◌, nat_le, nat_lt}
 use Rattle.std.proofs.lemmas.Bool.{cases_Bool, eqb-true, leb-false, ltb-false, ne_eqb, le-ltb, lt-leb, cond-true, cond-false, or_cases}
 use Rattle.std.proofs.lemmas.List.{length-take, take-append-drop}
@@ -47,7 +48,8 @@ either : (b : Bool) (x y x' y' : Result ℕ HestError) (n : ℕ) → (x ≡ Ok n
 either true x y x' y' n h k e = h e
 either false x y x' y' n h k e = k e
 
-by_type : (kind at n : ℕ) (bytes bytes' : List ℕ) → (length_with_banks at bytes 40 32 ≡ Ok n → length_with_banks at bytes' 40 32 ≡ Ok n) → (length_with_banks at bytes 48 44 ≡ Ok n → length_with_banks at bytes' 48 44 ≡ Ok n)
+by_type : (kind at n : ℕ) (bytes bytes' : List ℕ) → (length_with_banks at bytes 40 32 ≡ Ok n → length_with_banks at bytes' 40 32 ≡ Ok n) →
+    (length_with_banks at bytes 48 44 ≡ Ok n → length_with_banks at bytes' 48 44 ≡ Ok n)
     → length_by_type kind at bytes ≡ Ok n → length_by_type kind at bytes' ≡ Ok n
 by_type kind at n bytes bytes' h k =
     either (kind == 0) _ _ _ _ n h
@@ -70,7 +72,8 @@ banks : (at : ℕ) (bytes : List ℕ) (fixed place n : ℕ) → Banked bytes fix
 banks at bytes fixed place n b =
     cond-false (nat_le (length bytes) place) (Err (Cut at)) _ (lt-leb (length bytes) place b.there) ∙ ap (λ (m : ℕ). Ok m) b.size
 
-banked_front : (at : ℕ) (front more : List ℕ) (fixed place : ℕ) → place < fixed → length_with_banks at (front ++ more) fixed place ≡ Ok (length front) → length_with_banks at front fixed place ≡ Ok (length front)
+banked_front : (at : ℕ) (front more : List ℕ) (fixed place : ℕ) → place < fixed → length_with_banks at (front ++ more) fixed place ≡ Ok (length front) →
+    length_with_banks at front fixed place ≡ Ok (length front)
 banked_front at front more fixed place h e =
     let b = is_with_banks at (front ++ more) fixed place (length front) e in
     let size = b.size in
@@ -194,13 +197,15 @@ unfolding source_at
 source_again at (Generic source) front more rest is e =
     let r = ghes_reads source rest more is.0 (e ∙ ap (λ (xs : List ℕ). xs ++ more) is.1) in
     let size : length front ≡ size_of source.ack = ap length is.1 ∙ length-ghes source is.0 in
-    let by_kind : length_by_type (number_at rest 0 2) at rest ≡ Ok (length front) = ap (λ (k : ℕ). length_by_type k at rest) r.kind_is ∙ generic_length source.ack at rest ∙ ap (λ (k : ℕ). Ok k) (sym size) in
+    let by_kind : length_by_type (number_at rest 0 2) at rest ≡ Ok (length front) = ap (λ (k : ℕ). length_by_type k at rest) r.kind_is ∙ generic_length
+    source.ack at rest ∙ ap (λ (k : ℕ). Ok k) (sym size) in
     let low = length_low (number_at rest 0 2) at (length front) rest by_kind in
     let all : length rest ≡ length front + length more = ap length e ∙ length-append front more in
     record {
       length_is = measures at (length front) rest (record { head = omega arith; by_kind = by_kind; fits = omega arith });
       source_is =
-          cond-true ((number_at rest 0 2 == 9) || (number_at rest 0 2 == 10)) _ (Other (number_at rest 0 2) at (length front)) (ap (λ (k : ℕ). (k == 9) || (k == 10)) r.kind_is ∙ generic_type source.ack)
+          cond-true ((number_at rest 0 2 == 9) || (number_at rest 0 2 == 10)) _ (Other (number_at rest 0 2) at (length front))
+          (ap (λ (k : ℕ). (k == 9) || (k == 10)) r.kind_is ∙ generic_type source.ack)
           ∙ ap (λ (g : Ghes). Generic g) r.source_is;
       low = low;
     }

@@ -1,5 +1,6 @@
 -- One structure: what is read of it is spelled so, and what is spelled so is read again.
-use Rattle.std.proofs.Common.{◌≡◌, ℕ, ◌+◌, ◌<◌, ◌≤◌, ◌^◌, if◌then◌else◌, ◌==◌, List, [], ◌∷◌, ◌++◌, length, map, get_or, Option, Some, None, IfSome, refl, sym, ap, subst, ◌∙◌, arith, length-append, append_assoc}
+use Rattle.std.proofs.Common.{◌≡◌, ℕ, ◌+◌, ◌<◌, ◌≤◌, ◌^◌, if◌then◌else◌, ◌==◌, List, [], ◌∷◌, ◌++◌, length, map, get_or, Option, Some, None, IfSome, refl, sym}
+use Rattle.std.proofs.Common.{ap, subst, ◌∙◌, arith, length-append, append_assoc}
 use Rattle.std.proofs.lemmas.List.{append-nil}
 use Rattle.base_model.specs.Bytes.{part, number_at, spelled, joined, AreBytes}
 use Rattle.base_model.proofs.BytesLemmas.{spelled-number_at, number_at-lt, length-part, part-part, part-append, part-append_right, part-whole, length-joined, AreBytes-part}
@@ -50,7 +51,13 @@ pub gas_again : (bytes : List ℕ) → AreBytes bytes → length bytes ≡ 12 �
 unfolding gas_fields
 gas_again bytes h k =
     let again = λ (at m : ℕ) (low : at + m ≤ 12). spelled-number_at bytes at m h (omega arith) in
-    let fields : gas_fields (gas_at bytes) ≡ parts gas_sizes 0 bytes = rw (again 0 1 (omega arith), again 1 1 (omega arith), again 2 1 (omega arith), again 3 1 (omega arith), again 4 8 (omega arith)) refl in
+    let fields : gas_fields (gas_at bytes) ≡ parts gas_sizes 0 bytes = rw (
+      again 0 1 (omega arith),
+      again 1 1 (omega arith),
+      again 2 1 (omega arith),
+      again 3 1 (omega arith),
+      again 4 8 (omega arith),
+    ) refl in
     sym (gas_joined (gas_at bytes) (is_gas bytes h k)) ∙ ap joined fields ∙ joined-parts gas_sizes 0 bytes ∙ part-whole bytes 12 (omega arith)
 
 pub gas_reads : (gas : Gas) → IsGas gas → gas_at (spelling gas) ≡ gas
@@ -170,7 +177,18 @@ front_again bytes ack h k kind =
     let again = λ (at m : ℕ) (low : at + m ≤ 64). spelled-number_at bytes at m h (omega arith) in
     let a0 : spelled 2 (type_of ack) ≡ part bytes 0 2 = ap (spelled 2) (sym kind) ∙ again 0 2 (omega arith) in
     let status = gas_again (part bytes 20 12) (AreBytes-part bytes 20 12 h) (length-part bytes 20 12 (omega arith)) in
-    let fields : ghes_fields (front_at bytes ack) ≡ parts ghes_sizes 0 bytes = rw (a0, again 2 2 (omega arith), again 4 2 (omega arith), again 6 1 (omega arith), again 7 1 (omega arith), again 8 4 (omega arith), again 12 4 (omega arith), again 16 4 (omega arith), again 60 4 (omega arith), status) refl in
+    let fields : ghes_fields (front_at bytes ack) ≡ parts ghes_sizes 0 bytes = rw (
+      a0,
+      again 2 2 (omega arith),
+      again 4 2 (omega arith),
+      again 6 1 (omega arith),
+      again 7 1 (omega arith),
+      again 8 4 (omega arith),
+      again 12 4 (omega arith),
+      again 16 4 (omega arith),
+      again 60 4 (omega arith),
+      status,
+    ) refl in
     ap joined fields ∙ joined-parts ghes_sizes 0 bytes
 
 ack_again : (bytes : List ℕ) → AreBytes bytes → 92 ≤ length bytes → joined (ack_fields (ack_at bytes)) ≡ part bytes 64 28
@@ -185,7 +203,8 @@ pub record GhesAgain (bytes : List ℕ) (n : ℕ) : Type 0 where
   pub is_ghes : IsGhes (front_at bytes (ack_by_type (number_at bytes 0 2) bytes))
   pub bytes_are : part bytes 0 n ≡ ghes_bytes (front_at bytes (ack_by_type (number_at bytes 0 2) bytes))
 
-both_again : (bytes : List ℕ) (ack : Option Ack) (n : ℕ) → ack_by_type (number_at bytes 0 2) bytes ≡ ack → IsGhes (front_at bytes ack) → part bytes 0 n ≡ ghes_bytes (front_at bytes ack) → GhesAgain bytes n
+both_again : (bytes : List ℕ) (ack : Option Ack) (n : ℕ) → ack_by_type (number_at bytes 0 2) bytes ≡ ack → IsGhes (front_at bytes ack) →
+    part bytes 0 n ≡ ghes_bytes (front_at bytes ack) → GhesAgain bytes n
 both_again bytes ack n e is same = record {
   is_ghes = subst (λ (a : Option Ack). IsGhes (front_at bytes a)) (sym e) is;
   bytes_are = same ∙ ap (λ (a : Option Ack). ghes_bytes (front_at bytes a)) (sym e);
@@ -202,7 +221,8 @@ unfolding ghes_bytes
 ghes_ten bytes h k kind =
     let ack = ack_at bytes in
     both_again bytes (Some ack) 92 (ap (λ (n : ℕ). ack_by_type n bytes) kind) (is_front bytes (Some ack) h (omega arith) (is_ack bytes h k))
-    (sym (ap (λ (xs : List ℕ). xs ++ joined (ack_fields ack)) (front_again bytes (Some ack) h (omega arith) kind) ∙ ap (λ (xs : List ℕ). part bytes 0 64 ++ xs) (ack_again bytes h k) ∙ part-append bytes 0 64 28))
+    (sym (ap (λ (xs : List ℕ). xs ++ joined (ack_fields ack)) (front_again bytes (Some ack) h (omega arith) kind) ∙ ap (λ (xs : List ℕ). part bytes 0 64 ++ xs)
+    (ack_again bytes h k) ∙ part-append bytes 0 64 28))
 
 -- what `put` writes
 pub wrote_nine : (source : Ghes) (old new : List ℕ) → source.ack ≡ None → Wrote old new 0 64 (joined (ghes_fields source)) → Wrote old new 0 64 (ghes_bytes source)
@@ -210,7 +230,8 @@ unfolding ghes_bytes
 wrote_nine source old new none w =
     subst (Wrote old new 0 64) (sym (append-nil (joined (ghes_fields source))) ∙ ap (λ (a : Option Ack). joined (ghes_fields source) ++ ack_bytes a) (sym none)) w
 
-pub wrote_ten : (source : Ghes) (ack : Ack) (old mid new : List ℕ) (end : ℕ) → source.ack ≡ Some ack → end ≡ 92 → Wrote old mid 0 64 (joined (ghes_fields source)) → Wrote mid new 64 92 (joined (ack_fields ack)) → Wrote old new 0 end (ghes_bytes source)
+pub wrote_ten : (source : Ghes) (ack : Ack) (old mid new : List ℕ) (end : ℕ) → source.ack ≡ Some ack → end ≡ 92 →
+    Wrote old mid 0 64 (joined (ghes_fields source)) → Wrote mid new 64 92 (joined (ack_fields ack)) → Wrote old new 0 end (ghes_bytes source)
 unfolding ghes_bytes
 wrote_ten source ack old mid new end some e w x =
     subst (λ (n : ℕ). Wrote old new 0 n (joined (ghes_fields source) ++ ack_bytes source.ack)) (sym e)

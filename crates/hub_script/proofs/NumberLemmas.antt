@@ -9,7 +9,8 @@ use Rattle.script_lines.proofs.NumberLemmas.{front_number, IsFront}
 use Rattle.script_lines.proofs.NumberThenLemmas.{then_stops, then_goes}
 use Rattle.script_lines.proofs.PairLemmas.{one_pair}
 
-longest_of : (text : List ℕ) (value len : ℕ) → Breaks (IsNumber 0 (2 ^ 64 - 1)) text len → (0 < len → (take len text ≡ decimal value) × (0 ≤ value) × (value ≤ 2 ^ 64 - 1)) → IsLongestNumber 0 (2 ^ 64 - 1) text value len
+longest_of : (text : List ℕ) (value len : ℕ) → Breaks (IsNumber 0 (2 ^ 64 - 1)) text len →
+    (0 < len → (take len text ≡ decimal value) × (0 ≤ value) × (value ≤ 2 ^ 64 - 1)) → IsLongestNumber 0 (2 ^ 64 - 1) text value len
 longest_of text value len b number = record {
   within = b.within;
   number = number;
@@ -42,13 +43,15 @@ no_number text len b none = choose (cases_lt 0 len) where
     at (inr (n, most, is, positive)) = let m = b.begins.1.2 in none (n, omega arith, omega (arith, most, m), is)
 
 -- a number, and no space behind it
-pub number_stops : (text : List ℕ) (value len : ℕ) → Breaks (IsNumber 0 (2 ^ 64 - 1)) text len → take len text ≡ decimal value → value ≤ 2 ^ 64 - 1 → (len ≡ length text) ⊎ (get_or text len 0 ≡ 32 → ⊥) →
+pub number_stops : (text : List ℕ) (value len : ℕ) → Breaks (IsNumber 0 (2 ^ 64 - 1)) text len → take len text ≡ decimal value → value ≤ 2 ^ 64 - 1 →
+    (len ≡ length text) ⊎ (get_or text len 0 ≡ 32 → ⊥) →
     Breaks (IsNumberThen (2 ^ 64 - 1) IsPairs) text len
 number_stops text value len b is most stops =
     then_stops (2 ^ 64 - 1) IsPairs value len text (omega arith) some_pairs (longest_of text value len b (λ some. (is, omega arith, most))) (inr stops)
 
 -- a number, a space, and what are no pairs
-pub number_goes : (text : List ℕ) (value len reach : ℕ) → Breaks (IsNumber 0 (2 ^ 64 - 1)) text len → take len text ≡ decimal value → value ≤ 2 ^ 64 - 1 → 0 < length (decimal value) → len < length text → get_or text len 0 ≡ 32 →
+pub number_goes : (text : List ℕ) (value len reach : ℕ) → Breaks (IsNumber 0 (2 ^ 64 - 1)) text len → take len text ≡ decimal value → value ≤ 2 ^ 64 - 1 →
+    0 < length (decimal value) → len < length text → get_or text len 0 ≡ 32 →
     Breaks IsPairs (drop (len + 1) text) reach → Breaks (IsNumberThen (2 ^ 64 - 1) IsPairs) text (len + 1 + reach)
 number_goes text value len reach b is most some below space breaks =
     then_goes (2 ^ 64 - 1) IsPairs value len reach text (omega arith) (longest_of text value len b (λ h. (is, omega arith, most)))

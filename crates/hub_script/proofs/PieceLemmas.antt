@@ -68,7 +68,8 @@ is_listed None at n within many = tt
 is_listed (Some members) at n within many = omega (arith, within, many)
 
 pub heard_step : {X : Type 0} (f : X → ℕ) (told : Type 0) (o : Option (List X)) (written middle now held reply reply_now : List ℕ) (k n count : ℕ)
-    → IfSome o (λ members. AreShown told written middle held (words_of_heard (map f (take k members)))) → AreShown told middle now reply held → k < n → IfSome o (λ members. n ≡ min (length members) (2 ^ 32 - 1))
+    → IfSome o (λ members. AreShown told written middle held (words_of_heard (map f (take k members)))) → AreShown told middle now reply held → k < n →
+    IfSome o (λ members. n ≡ min (length members) (2 ^ 32 - 1))
     → IfSome o (λ members. IfSome (slice_get members k) (λ b. count ≡ f b)) → reply_now ≡ reply ++ (codes " " ++ decimal count)
     → IfSome o (λ members. AreShown told written now reply_now (words_of_heard (map f (take (k + 1) members))))
 heard_step f told None written middle now held reply reply_now k n count so shown few many at is = tt
@@ -96,7 +97,8 @@ heard_line {X} f told members written middle held reply k n so same many is =
     (ap (λ (ms : List X). reply_line (words_of_heard (map f ms))) (sym (listed_is members n many) ∙ ap (λ (j : ℕ). take j members) (sym same)))
 
 pub heard_all : {X : Type 0} (f : X → ℕ) (told : Type 0) (o : Option (List X)) (written middle now held reply lent : List ℕ) (k n : ℕ)
-    → IfSome o (λ members. AreShown told written middle held (words_of_heard (map f (take k members)))) → k ≡ n → IfSome o (λ members. n ≡ min (length members) (2 ^ 32 - 1)) → reply ≡ reply_line held → lent ≡ reply
+    → IfSome o (λ members. AreShown told written middle held (words_of_heard (map f (take k members)))) → k ≡ n →
+    IfSome o (λ members. n ≡ min (length members) (2 ^ 32 - 1)) → reply ≡ reply_line held → lent ≡ reply
     → (told → now ≡ middle ++ lent) → IfSome o (λ members. told → now ≡ written ++ reply_line (words_of_heard (map f (listed members))))
 heard_all f told None written middle now held reply lent k n so same many is equivalent text = tt
 heard_all f told (Some members) written middle now held reply lent k n so same many is equivalent text =
@@ -104,7 +106,8 @@ heard_all f told (Some members) written middle now held reply lent k n so same m
     (λ t. text t ∙ ap (λ (xs : List ℕ). middle ++ xs) equivalent)
 
 pub heard_last : {X : Type 0} (f : X → ℕ) (told : Type 0) (o : Option (List X)) (written middle now held reply lent : List ℕ) (k n : ℕ)
-    → IfSome o (λ members. AreShown told written middle held (words_of_heard (map f (take k members)))) → k ≡ n → IfSome o (λ members. n ≡ min (length members) (2 ^ 32 - 1)) → reply ≡ reply_line held → lent ≡ reply
+    → IfSome o (λ members. AreShown told written middle held (words_of_heard (map f (take k members)))) → k ≡ n →
+    IfSome o (λ members. n ≡ min (length members) (2 ^ 32 - 1)) → reply ≡ reply_line held → lent ≡ reply
     → (told → (m : ℕ) × (now ≡ middle ++ take m lent)) → IfSome o (λ members. told → IsPartWritten (reply_line (words_of_heard (map f (listed members)))) written now)
 heard_last f told None written middle now held reply lent k n so same many is equivalent text = tt
 heard_last f told (Some members) written middle now held reply lent k n so same many is equivalent text =

@@ -1,5 +1,6 @@
 -- Lines that are played.
-use Rattle.std.proofs.Common.{◌≡◌, ◌∙◌, ℕ, ◌+◌, ◌*◌, ◌<◌, ◌≤◌, inl, inr, Bool, true, false, List, [], ◌∷◌, ◌++◌, length, take, drop, get_or, map, refl, sym, ap, subst, arith, append_assoc, cond, length-append}
+use Rattle.std.proofs.Common.{◌≡◌, ◌∙◌, ℕ, ◌+◌, ◌*◌, ◌<◌, ◌≤◌, inl, inr, Bool, true, false, List, [], ◌∷◌, ◌++◌, length, take, drop, get_or, map, refl, sym, ap}
+use Rattle.std.proofs.Common.{subst, arith, append_assoc, cond, length-append}
 use Rattle.std.specs.Prelude.{codes}
 use Rattle.std.proofs.lemmas.List.{append-nil, take-append-drop, take_more, take_all, flat_map_more, length-take-le, get_or-take}
 use Rattle.apei_notify.specs.Telling.{Hearing}
@@ -35,7 +36,8 @@ asks_hub (turns pairs) = true
 asks_hub (heard source) = true
 asks_hub (removal source at) = true
 
-while_waiting : {L : Type 0} (hearing : L → Hearing) (listeners : List L) (line : Line) → asks_hub line ≡ true → Plays hearing (Waiting listeners) line (refused (words_of_refusal NoHub) ∷ []) [] (Waiting listeners)
+while_waiting : {L : Type 0} (hearing : L → Hearing) (listeners : List L) (line : Line) → asks_hub line ≡ true → Plays hearing (Waiting listeners) line
+    (refused (words_of_refusal NoHub) ∷ []) [] (Waiting listeners)
 while_waiting hearing listeners blank asks = absurd (cc asks)
 while_waiting hearing listeners (comment rest) asks = absurd (cc asks)
 while_waiting hearing listeners (hest hex) asks = absurd (cc asks)
@@ -56,11 +58,13 @@ more_text written said words =
 
 module _ {L : Type 0} (hearing : L → Hearing) (told_sink : Type 0) (old new : HubStage L) (line : Line) (written now : List ℕ) where
   -- a line of one reply, which was written
-  pub one_played : (words : List ℕ) (calls : List Call) → Plays hearing old line (words ∷ []) calls new → (told_sink → now ≡ written ++ reply_line words) → PlaysLine hearing (stream_of told_sink written now) old line new
+  pub one_played : (words : List ℕ) (calls : List Call) → Plays hearing old line (words ∷ []) calls new → (told_sink → now ≡ written ++ reply_line words) →
+      PlaysLine hearing (stream_of told_sink written now) old line new
   one_played words calls plays text = record { said = words ∷ []; calls = calls; plays = plays; text = λ t. text t ∙ ap (λ (xs : List ℕ). written ++ xs) (sym (one_text words)) }
 
   -- and one which was written in part
-  pub one_unwritten : (words : List ℕ) (calls : List Call) → Plays hearing old line (words ∷ []) calls new → (told_sink → IsPartWritten (reply_line words) written now) → PlaysUnwritten hearing (stream_of told_sink written now) old line new
+  pub one_unwritten : (words : List ℕ) (calls : List Call) → Plays hearing old line (words ∷ []) calls new →
+      (told_sink → IsPartWritten (reply_line words) written now) → PlaysUnwritten hearing (stream_of told_sink written now) old line new
   one_unwritten words calls plays text = record {
     made = line;
     said = words ∷ [];
@@ -72,10 +76,12 @@ module _ {L : Type 0} (hearing : L → Hearing) (told_sink : Type 0) (old new : 
     text = λ t. let part = text t in (part.0, part.1 ∙ ap (λ (xs : List ℕ). xs ++ take part.0 (reply_line words)) (sym (append-nil written)));
   }
 
-  pub reply_played : (reply lent : List ℕ) → MakesReply hearing old line new reply → lent ≡ reply → (told_sink → now ≡ written ++ lent) → PlaysLine hearing (stream_of told_sink written now) old line new
+  pub reply_played : (reply lent : List ℕ) → MakesReply hearing old line new reply → lent ≡ reply → (told_sink → now ≡ written ++ lent) →
+      PlaysLine hearing (stream_of told_sink written now) old line new
   reply_played reply lent made same text = one_played made.words made.calls made.plays (λ t. text t ∙ ap (λ (xs : List ℕ). written ++ xs) (same ∙ made.text))
 
-  pub reply_unwritten : (reply lent : List ℕ) → MakesReply hearing old line new reply → lent ≡ reply → (told_sink → (n : ℕ) × (now ≡ written ++ take n lent)) → PlaysUnwritten hearing (stream_of told_sink written now) old line new
+  pub reply_unwritten : (reply lent : List ℕ) → MakesReply hearing old line new reply → lent ≡ reply → (told_sink → (n : ℕ) × (now ≡ written ++ take n lent)) →
+      PlaysUnwritten hearing (stream_of told_sink written now) old line new
   reply_unwritten reply lent made same text = one_unwritten made.words made.calls made.plays
       (λ t. let part = text t in (part.0, part.1 ∙ ap (λ (xs : List ℕ). written ++ take part.0 xs) (same ∙ made.text)))
 
@@ -163,7 +169,8 @@ module _ {L : Type 0} (hearing : L → Hearing) (told_sink : Type 0) where
         events = so.events ++ turn.event ∷ [];
         said = so.said ++ shown;
         turned = OneMore (take (2 * at) all) so.calls so.events so.said mid digit letter turn.event new so.turned turn.turned;
-        events_are = turn.said ∙ ap (λ (xs : List ℕ). xs ++ (codes " " ++ word_of turn.event)) so.events_are ∙ flat_map_more (λ (event : Event). codes " " ++ word_of event) (codes "turns") so.events turn.event;
+        events_are = turn.said ∙ ap (λ (xs : List ℕ). xs ++ (codes " " ++ word_of turn.event)) so.events_are ∙ flat_map_more
+            (λ (event : Event). codes " " ++ word_of event) (codes "turns") so.events turn.event;
         text = λ t. turn.text t ∙ ap (λ (xs : List ℕ). xs ++ text_of_replies shown) (so.text t) ∙ append_assoc written (text_of_replies so.said) (text_of_replies shown)
             ∙ ap (λ (xs : List ℕ). written ++ xs) (sym (flat_map-append reply_line so.said shown));
       })
@@ -200,7 +207,8 @@ module _ {L : Type 0} (hearing : L → Hearing) (told_sink : Type 0) where
         before = so.said;
         last = block;
         left = subst (λ (xs : List ℕ). IsLeft (Serving old) (turns xs) (turns front) ((so.said ++ block ∷ []) ++ words_of_turns events ∷ []) so.said block) whole
-            (subst (λ (xs : List (List ℕ)). IsLeft (Serving old) (turns (front ++ drop (2 * (at + 1)) all)) (turns front) xs so.said block) (sym (append_assoc so.said (block ∷ []) (words_of_turns events ∷ [])))
+            (subst (λ (xs : List (List ℕ)). IsLeft (Serving old) (turns (front ++ drop (2 * (at + 1)) all)) (turns front) xs so.said block)
+            (sym (append_assoc so.said (block ∷ []) (words_of_turns events ∷ [])))
             (InBlock front (drop (2 * (at + 1)) all) so.events so.said block (subst (AllNamed old) (sym whole) named)));
         plays = AllTurned (so.calls ++ Turns (source_of digit) (side_of letter) Took ∷ []) events (so.said ++ block ∷ []) new (named_front old all (2 * (at + 1)) (omega (arith, within)) named) made;
         text = λ t. let part = turn.text t in (part.0, part.1 ∙ ap (λ (xs : List ℕ). xs ++ take part.0 (reply_line block)) (so.text t));
@@ -221,7 +229,8 @@ module _ {L : Type 0} (hearing : L → Hearing) (told_sink : Type 0) where
       → TurnedSoFar hearing told_sink old new all said_events written now
   of_all old new all at said_events written now end so = subst (λ (xs : List ℕ). TurnedSoFar hearing told_sink old new xs said_events written now) (take_all (2 * at) all end) so
 
-  pub all_turned : (old new : HubState L) (all : List ℕ) (at : ℕ) (said_events written middle now : List ℕ) → length all ≤ 2 * at → AllNamed old all → TurnedSoFar hearing told_sink old new (take (2 * at) all) said_events written middle
+  pub all_turned : (old new : HubState L) (all : List ℕ) (at : ℕ) (said_events written middle now : List ℕ) → length all ≤ 2 * at → AllNamed old all →
+      TurnedSoFar hearing told_sink old new (take (2 * at) all) said_events written middle
       → (told_sink → now ≡ middle ++ reply_line said_events) → PlaysLine hearing (stream_of told_sink written now) (Serving old) (turns all) (Serving new)
   all_turned old new all at said_events written middle now end named some text =
       let so = of_all old new all at said_events written middle end some in
@@ -234,7 +243,8 @@ module _ {L : Type 0} (hearing : L → Hearing) (told_sink : Type 0) where
       }
 
   -- and a part of the reply behind them
-  pub all_unwritten : (old new : HubState L) (all : List ℕ) (at : ℕ) (said_events written middle now : List ℕ) → length all ≤ 2 * at → AllNamed old all → TurnedSoFar hearing told_sink old new (take (2 * at) all) said_events written middle
+  pub all_unwritten : (old new : HubState L) (all : List ℕ) (at : ℕ) (said_events written middle now : List ℕ) → length all ≤ 2 * at → AllNamed old all →
+      TurnedSoFar hearing told_sink old new (take (2 * at) all) said_events written middle
       → (told_sink → IsPartWritten (reply_line said_events) middle now) → PlaysUnwritten hearing (stream_of told_sink written now) (Serving old) (turns all) (Serving new)
   all_unwritten old new all at said_events written middle now end named some text =
       let so = of_all old new all at said_events written middle end some in
@@ -253,10 +263,12 @@ module _ {L : Type 0} (hearing : L → Hearing) (told_sink : Type 0) where
       }
 
 -- what was lent to the sink is the reply with the end of its line
-pub lent_text : (told_sink : Type 0) (written now lent words : List ℕ) {reply : List ℕ} → lent ≡ reply → reply ≡ reply_line words → (told_sink → now ≡ written ++ lent) → told_sink → now ≡ written ++ reply_line words
+pub lent_text : (told_sink : Type 0) (written now lent words : List ℕ) {reply : List ℕ} → lent ≡ reply → reply ≡ reply_line words →
+    (told_sink → now ≡ written ++ lent) → told_sink → now ≡ written ++ reply_line words
 lent_text told_sink written now lent words same is text t = text t ∙ ap (λ (xs : List ℕ). written ++ xs) (same ∙ is)
 
-pub lent_part : (told_sink : Type 0) (written now lent words : List ℕ) {reply : List ℕ} → lent ≡ reply → reply ≡ reply_line words → (told_sink → (n : ℕ) × (now ≡ written ++ take n lent)) → told_sink → IsPartWritten (reply_line words) written now
+pub lent_part : (told_sink : Type 0) (written now lent words : List ℕ) {reply : List ℕ} → lent ≡ reply → reply ≡ reply_line words →
+    (told_sink → (n : ℕ) × (now ≡ written ++ take n lent)) → told_sink → IsPartWritten (reply_line words) written now
 lent_part told_sink written now lent words same is text t = let part = text t in (part.0, part.1 ∙ ap (λ (xs : List ℕ). written ++ take part.0 xs) (same ∙ is))
 
 word_short : (event : Event) → length (word_of event) ≤ 7
@@ -273,7 +285,8 @@ said_longer event events now at is short =
     omega (arith, w, n, m, one, short)
 
 -- the source of a pair is there
-pub is_named : {L : Type 0} (first now : HubState L) (pairs : List ℕ) (at source : ℕ) → AllNamed first pairs → 2 * at < length pairs → source ≡ source_of (get_or pairs (2 * at) 0) → sources_in now ≡ sources_in first → source < sources_in now
+pub is_named : {L : Type 0} (first now : HubState L) (pairs : List ℕ) (at source : ℕ) → AllNamed first pairs → 2 * at < length pairs →
+    source ≡ source_of (get_or pairs (2 * at) 0) → sources_in now ≡ sources_in first → source < sources_in now
 is_named first now pairs at source named within is count = let here = named at within in omega (arith, here, is, count)
 
 -- a blank line says nothing
@@ -281,14 +294,21 @@ pub blank_played : {L : Type 0} (hearing : L → Hearing) (told_sink : Type 0) (
 blank_played hearing told_sink stage written = record { said = []; calls = []; plays = IsBlank; text = λ t. sym (append-nil written) }
 
 -- a comment is played as a blank line
-as_comment : {L : Type 0} (hearing : L → Hearing) (old : HubStage L) (said : List (List ℕ)) (calls : List Call) (new : HubStage L) (rest : List ℕ) → Plays hearing old blank said calls new → Plays hearing old (comment rest) said calls new
+as_comment : {L : Type 0} (hearing : L → Hearing) (old : HubStage L) (said : List (List ℕ)) (calls : List Call) (new : HubStage L) (rest : List ℕ) →
+    Plays hearing old blank said calls new → Plays hearing old (comment rest) said calls new
 as_comment hearing old said calls new rest IsBlank = IsComment
 
 -- the line that a text is, a comment where it is one
-pub text_is : {L : Type 0} (hearing : L → Hearing) (told_sink : Type 0) (old new : HubStage L) (written now text : List ℕ) (line : HubLine) → IsText text line → PlaysLine hearing (stream_of told_sink written now) old (line_of line) new
+pub text_is : {L : Type 0} (hearing : L → Hearing) (told_sink : Type 0) (old new : HubStage L) (written now text : List ℕ) (line : HubLine) → IsText text line →
+    PlaysLine hearing (stream_of told_sink written now) old (line_of line) new
     → TextIs text (λ asked. PlaysLine hearing (stream_of told_sink written now) old asked new)
 text_is hearing told_sink old new written now text Blank (inl is) plays = record { line = blank; written = is; made = plays }
-text_is hearing told_sink old new written now text Blank (inr (rest, is)) plays = record { line = comment rest; written = is; made = record { said = plays.said; calls = plays.calls; plays = as_comment hearing old plays.said plays.calls new rest plays.plays; text = plays.text } }
+text_is hearing told_sink old new written now text Blank (inr (rest, is)) plays = record {
+  line = comment rest;
+  written = is;
+  made =
+      record { said = plays.said; calls = plays.calls; plays = as_comment hearing old plays.said plays.calls new rest plays.plays; text = plays.text };
+}
 text_is hearing told_sink old new written now text (Hest hex) is plays = record { line = hest hex.now; written = is; made = plays }
 text_is hearing told_sink old new written now text (Error source hex) is plays = record { line = error source hex.now; written = is; made = plays }
 text_is hearing told_sink old new written now text (TurnsOf pairs) is plays = record { line = turns pairs.now; written = is; made = plays }
@@ -299,13 +319,15 @@ text_is hearing told_sink old new written now text (Drop source at) is plays = r
 none_said : {L : Type 0} (hearing : L → Hearing) (old : HubStage L) (said : List (List ℕ)) (calls : List Call) (new : HubStage L) → Plays hearing old blank said calls new → said ≡ []
 none_said hearing old said calls new IsBlank = refl
 
-none_left : {L : Type 0} (hearing : L → Hearing) (old : HubStage L) (made : Line) (said before : List (List ℕ)) (last : List ℕ) (calls : List Call) (new : HubStage L) → IsLeft old blank made said before last → Plays hearing old made said calls new → ⊥
+none_left : {L : Type 0} (hearing : L → Hearing) (old : HubStage L) (made : Line) (said before : List (List ℕ)) (last : List ℕ) (calls : List Call)
+    (new : HubStage L) → IsLeft old blank made said before last → Plays hearing old made said calls new → ⊥
 none_left hearing old made said before last calls new (AtLast some end) plays =
     let none = ap length (none_said hearing old _ calls new plays) in
     let more = length-append some (end ∷ []) in
     omega (arith, none, more)
 
-pub text_unwritten : {L : Type 0} (hearing : L → Hearing) (told_sink : Type 0) (old new : HubStage L) (written now text : List ℕ) (line : HubLine) → IsText text line → PlaysUnwritten hearing (stream_of told_sink written now) old (line_of line) new
+pub text_unwritten : {L : Type 0} (hearing : L → Hearing) (told_sink : Type 0) (old new : HubStage L) (written now text : List ℕ) (line : HubLine) →
+    IsText text line → PlaysUnwritten hearing (stream_of told_sink written now) old (line_of line) new
     → TextIs text (λ asked. PlaysUnwritten hearing (stream_of told_sink written now) old asked new)
 text_unwritten hearing told_sink old new written now text Blank is plays = absurd (none_left hearing old plays.made plays.said plays.before plays.last plays.calls new plays.left plays.plays)
 text_unwritten hearing told_sink old new written now text (Hest hex) is plays = record { line = hest hex.now; written = is; made = plays }

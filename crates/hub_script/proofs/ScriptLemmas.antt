@@ -39,7 +39,8 @@ Follows-push hearing first (head ∷ some) mid one (plays, follows) line = (play
 
 text-push : {L : Type 0} (some : List (Played L)) (one : Played L) → text_of_played (some ++ one ∷ []) ≡ text_of_played some ++ text_of_replies one.said
 text-push [] one = append-nil (text_of_replies one.said)
-text-push (first ∷ some) one = ap (λ (bs : List ℕ). text_of_replies first.said ++ bs) (text-push some one) ∙ sym (append_assoc (text_of_replies first.said) (text_of_played some) (text_of_replies one.said))
+text-push (first ∷ some) one = ap (λ (bs : List ℕ). text_of_replies first.said ++ bs) (text-push some one)
+    ∙ sym (append_assoc (text_of_replies first.said) (text_of_played some) (text_of_replies one.said))
 
 module _ {L : Type 0} (hearing : L → Hearing) (told_source told_sink : Type 0) where
   -- a script so far: the lines that were read, all of them played
@@ -56,13 +57,15 @@ module _ {L : Type 0} (hearing : L → Hearing) (told_source told_sink : Type 0)
 
   -- there is no next line
   pub ends_none : (order : AreReadInOrder told_source) (old new : HubStage L) (script rest rest_now written now : List ℕ) (a b : Reading) (ending : ScriptEnd)
-      → SoFar old new script rest written now a → EndsReading told_source a b rest rest_now ending → PlaysScript hearing (stream_of told_source script rest_now) (stream_of told_sink written now) old new ending
+      → SoFar old new script rest written now a → EndsReading told_source a b rest rest_now ending → PlaysScript hearing (stream_of told_source script rest_now)
+      (stream_of told_sink written now) old new ending
   ends_none order old new script rest rest_now written now a b ending so_far end = record {
     lines = so_far.lines;
     ends = lines_end IsLine GivesTable told_source script rest rest_now so_far.lines a b ending order so_far.read end;
     played = so_far.played;
     follows = so_far.follows;
-    are = whole (λ (text : List ℕ) (one : Played L). IsWritten text one.line) (IsUnwritten hearing (stream_of told_sink written now) old) (λ (all : List (Played L)). told_sink → now ≡ written ++ text_of_played all)
+    are = whole (λ (text : List ℕ) (one : Played L). IsWritten text one.line) (IsUnwritten hearing (stream_of told_sink written now) old)
+        (λ (all : List (Played L)). told_sink → now ≡ written ++ text_of_played all)
         told_source a b rest rest_now so_far.lines so_far.played ending end (so_far.are, so_far.text);
     waits = λ memory. absurd (not_memory told_source a b rest rest_now ending end memory);
   }
@@ -82,7 +85,8 @@ module _ {L : Type 0} (hearing : L → Hearing) (told_source told_sink : Type 0)
           lines = so_far.lines ++ last_line b ∷ [];
           played = so_far.played ++ one ∷ [];
           read = read;
-          are = ArePlayed-push (λ (words : List ℕ) (each : Played L). IsWritten words each.line) so_far.lines (last_line b) so_far.played one so_far.are (is_this (λ (words : List ℕ). IsWritten words plays.line) plays.written);
+          are = ArePlayed-push (λ (words : List ℕ) (each : Played L). IsWritten words each.line) so_far.lines (last_line b) so_far.played one so_far.are
+              (is_this (λ (words : List ℕ). IsWritten words plays.line) plays.written);
           follows = Follows-push hearing old so_far.played mid one so_far.follows plays.made.plays;
           text = λ told. plays.made.text told ∙ ap (λ (bs : List ℕ). bs ++ text_of_replies one.said) (so_far.text told) ∙ append_assoc written (text_of_played so_far.played) (text_of_replies one.said)
               ∙ ap (λ (bs : List ℕ). written ++ bs) (sym (text-push so_far.played one));
@@ -90,7 +94,8 @@ module _ {L : Type 0} (hearing : L → Hearing) (told_source told_sink : Type 0)
 
     -- the sink refused a reply of it
     pub ends_unwritten : (new : HubStage L) (now : List ℕ) → (told_source → StandsAt script so_far.lines b.number (last_line b))
-        → TextIs text (λ line. PlaysUnwritten hearing (stream_of told_sink middle now) mid line new) → PlaysScript hearing (stream_of told_source script rest_now) (stream_of told_sink written now) old new SinkFault
+        → TextIs text (λ line. PlaysUnwritten hearing (stream_of told_sink middle now) mid line new) →
+        PlaysScript hearing (stream_of told_source script rest_now) (stream_of told_sink written now) old new SinkFault
     ends_unwritten new now stands plays =
         let made = plays.made in
         let one : Played L = record { line = made.made; said = made.said; calls = made.calls; left = new } in
@@ -123,7 +128,8 @@ module _ {L : Type 0} (hearing : L → Hearing) (told_source told_sink : Type 0)
         }
 
     -- it is none
-    pub ends_bad : (new : HubStage L) (now : List ℕ) (number column : ℕ) → new ≡ mid → now ≡ middle → number ≡ b.number → (told_source → StandsAt script so_far.lines b.number (last_line b)) → BreaksAt IsLine text column
+    pub ends_bad : (new : HubStage L) (now : List ℕ) (number column : ℕ) → new ≡ mid → now ≡ middle → number ≡ b.number →
+        (told_source → StandsAt script so_far.lines b.number (last_line b)) → BreaksAt IsLine text column
         → PlaysScript hearing (stream_of told_source script rest_now) (stream_of told_sink written now) old new (BadLine number column)
     ends_bad new now number column stays kept is stands breaks = record {
       lines = so_far.lines;
@@ -135,7 +141,8 @@ module _ {L : Type 0} (hearing : L → Hearing) (told_source told_sink : Type 0)
     }
 
     -- there was no memory for it
-    pub ends_memory : (new : HubStage L) (now : List ℕ) → new ≡ mid → now ≡ middle → (told_source → StandsAt script so_far.lines b.number (last_line b)) → GivesTable text → (listeners : List L) × (mid ≡ Waiting listeners)
+    pub ends_memory : (new : HubStage L) (now : List ℕ) → new ≡ mid → now ≡ middle → (told_source → StandsAt script so_far.lines b.number (last_line b)) →
+        GivesTable text → (listeners : List L) × (mid ≡ Waiting listeners)
         → PlaysScript hearing (stream_of told_source script rest_now) (stream_of told_sink written now) old new Memory
     ends_memory new now stays kept stands table waits = record {
       lines = so_far.lines;
@@ -147,7 +154,8 @@ module _ {L : Type 0} (hearing : L → Hearing) (told_source told_sink : Type 0)
     }
 
 -- from listeners that wait on
-pub serves_script : {L : Type 0} (hearing : L → Hearing) (told_source told_sink : Type 0) (old new : HubStage L) (script rest written now : List ℕ) (listeners listeners_now : List L) (ending : ScriptEnd)
+pub serves_script : {L : Type 0} (hearing : L → Hearing) (told_source told_sink : Type 0) (old new : HubStage L) (script rest written now : List ℕ)
+    (listeners listeners_now : List L) (ending : ScriptEnd)
     → PlaysScript hearing (stream_of told_source script rest) (stream_of told_sink written now) old new ending → old ≡ Waiting listeners → listeners_now ≡ members_in new
     → ServesScript hearing (stream_of told_source script rest) (stream_of told_sink written now) listeners listeners_now ending
 serves_script {L} hearing told_source told_sink old new script rest written now listeners listeners_now ending plays begins back =
@@ -157,7 +165,8 @@ serves_script {L} hearing told_source told_sink old new script rest written now 
 
 -- where all lines are in the grammar and no fault was counted, all are read
 pub is_done : {L : Type 0} (hearing : L → Hearing) (told_source told_sink : Type 0) (old new : HubStage L) (script rest written now : List ℕ) (source source_now sink sink_now : ℕ) (ending : ScriptEnd)
-    → PlaysScript hearing (stream_of told_source script rest) (stream_of told_sink written now) old new ending → HasCauseOf OfSource source source_now (fault_of ending) → HasCauseOf OfSink sink sink_now (fault_of ending)
+    → PlaysScript hearing (stream_of told_source script rest) (stream_of told_sink written now) old new ending → HasCauseOf OfSource source source_now
+    (fault_of ending) → HasCauseOf OfSink sink sink_now (fault_of ending)
     → told_source → All (IsLineOf IsLine) (lines_of 0 script) → (Rose source source_now → ⊥) → (Rose sink sink_now → ⊥) → (ending ≡ Done) ⊎ (ending ≡ Memory)
 is_done hearing told_source told_sink old new script rest written now source source_now sink sink_now ending plays in_cause out_cause told all no_source no_sink =
     lines_done IsLine GivesTable script rest plays.lines source source_now sink sink_now ending (plays.ends told) in_cause out_cause all no_source no_sink

@@ -9,7 +9,9 @@ use Rattle.ghes_hub.specs.Opens.{IsOpened}
 use Rattle.ghes_hub.proofs.OpenLemmas.{from_opening}
 use Rattle.hub_script.specs.HubGrammar.{Line}
 use Rattle.hub_script.specs.Stages.{HubStage, Waiting, Serving}
-use Rattle.hub_script.specs.Plays.{Plays, source_of, IsBlank, IsComment, NoTable, NoOpening, Opened, IsOpenAlready, NoHubForBlock, NoSource, NotTaken, Queued, Turned, NoTurn, OneMore, NoHubForTurns, NotNamed, AllTurned, NoHubToCount, NoneToCount, Counted, NoHubToDrop, NoneToDrop, NoListener, Dropped}
+use Rattle.hub_script.specs.Plays.{Plays, source_of, IsBlank, IsComment, NoTable, NoOpening, Opened, IsOpenAlready, NoHubForBlock, NoSource, NotTaken, Queued}
+use Rattle.hub_script.specs.Plays.{Turned, NoTurn, OneMore, NoHubForTurns, NotNamed, AllTurned, NoHubToCount, NoneToCount, Counted, NoHubToDrop, NoneToDrop}
+use Rattle.hub_script.specs.Plays.{NoListener, Dropped}
 use Rattle.script_text.specs.Turns.{side_of}
 use Rattle.hub_script.specs.History.{Played, Follows, AreServed, NoHub, ByHub}
 
@@ -20,7 +22,8 @@ do-append hearing (Submits i block ∷ one) two first mid last (between, does, l
 do-append hearing (Turns i side event ∷ one) two first mid last (between, does, later) rest = (between, does, do-append hearing one two between mid last later rest)
 do-append hearing (Removes i at ∷ one) two first mid last (between, does, later) rest = (between, does, do-append hearing one two between mid last later rest)
 
-turned_does : {L : Type 0} (hearing : L → Hearing) (old : HubState L) (pairs : List ℕ) (calls : List Call) (events : List Event) (said : List (List ℕ)) (new : HubState L) → Turned hearing old pairs calls events said new → DoAll hearing calls old new
+turned_does : {L : Type 0} (hearing : L → Hearing) (old : HubState L) (pairs : List ℕ) (calls : List Call) (events : List Event) (said : List (List ℕ))
+    (new : HubState L) → Turned hearing old pairs calls events said new → DoAll hearing calls old new
 turned_does hearing old pairs calls events said new is = elim is as (λ pairs calls events said new is. DoAll hearing calls old new) [
   | NoTurn ↦ refl
   | OneMore pairs calls events said mid digit letter event new (before → does) turn ↦
@@ -36,7 +39,8 @@ record MakesCalls {L : Type 0} (hearing : L → Hearing) (hub : HubState L) (cal
 no_calls : {L : Type 0} (hearing : L → Hearing) (hub : HubState L) → MakesCalls hearing hub [] (Serving hub)
 no_calls hearing hub = record { after = hub; serving = refl; does = refl }
 
-makes_calls : {L : Type 0} (hearing : L → Hearing) (hub : HubState L) (line : Line) (said : List (List ℕ)) (calls : List Call) (new : HubStage L) → Plays hearing (Serving hub) line said calls new → MakesCalls hearing hub calls new
+makes_calls : {L : Type 0} (hearing : L → Hearing) (hub : HubState L) (line : Line) (said : List (List ℕ)) (calls : List Call) (new : HubStage L) →
+    Plays hearing (Serving hub) line said calls new → MakesCalls hearing hub calls new
 makes_calls hearing hub line said calls new IsBlank = no_calls hearing hub
 makes_calls hearing hub line said calls new IsComment = no_calls hearing hub
 makes_calls hearing hub line said calls new IsOpenAlready = no_calls hearing hub
@@ -56,7 +60,8 @@ abbrev calls_of : {L : Type 0} → List (Played L) → List Call
 calls_of {L} lines = flat_map (λ (played : Played L). played.calls) lines
 
 -- all lines from a hub that serves on
-all_calls : {L : Type 0} (hearing : L → Hearing) (hub : HubState L) (played : List (Played L)) (last : HubStage L) → Follows hearing (Serving hub) played last → MakesCalls hearing hub (calls_of played) last
+all_calls : {L : Type 0} (hearing : L → Hearing) (hub : HubState L) (played : List (Played L)) (last : HubStage L) → Follows hearing (Serving hub) played last →
+    MakesCalls hearing hub (calls_of played) last
 all_calls hearing hub [] last same = record { after = hub; serving = same; does = refl }
 all_calls {L} hearing hub (one ∷ rest) last (plays, follows) =
     let here = makes_calls hearing hub one.line one.said one.calls one.left plays in
@@ -75,7 +80,8 @@ record MayOpen {L : Type 0} (listeners : List L) (calls : List Call) (new : HubS
 waits_on : {L : Type 0} (listeners : List L) → MayOpen listeners [] (Waiting listeners)
 waits_on listeners = record { none = refl; opens = inl refl }
 
-may_open : {L : Type 0} (hearing : L → Hearing) (listeners : List L) (line : Line) (said : List (List ℕ)) (calls : List Call) (new : HubStage L) → Plays hearing (Waiting listeners) line said calls new → MayOpen listeners calls new
+may_open : {L : Type 0} (hearing : L → Hearing) (listeners : List L) (line : Line) (said : List (List ℕ)) (calls : List Call) (new : HubStage L) →
+    Plays hearing (Waiting listeners) line said calls new → MayOpen listeners calls new
 may_open hearing listeners line said calls new IsBlank = waits_on listeners
 may_open hearing listeners line said calls new IsComment = waits_on listeners
 may_open hearing listeners line said calls new (NoTable bytes why decoded refuses) = waits_on listeners
@@ -91,15 +97,19 @@ by_hub : {L : Type 0} (hearing : L → Hearing) (table : List HestSource) (liste
 by_hub {L} hearing table listeners first calls last opened made = subst (AreServed hearing listeners calls) (sym made.serving)
     (ByHub table first made.after opened made.does (λ i source is. from_opening hearing table listeners i source calls first made.after opened is made.does))
 
-pub are_served : {L : Type 0} (hearing : L → Hearing) (listeners : List L) (played : List (Played L)) (last : HubStage L) → Follows hearing (Waiting listeners) played last → AreServed hearing listeners (calls_of played) last
+pub are_served : {L : Type 0} (hearing : L → Hearing) (listeners : List L) (played : List (Played L)) (last : HubStage L) → Follows hearing (Waiting listeners)
+    played last → AreServed hearing listeners (calls_of played) last
 are_served hearing listeners [] last same = subst (AreServed hearing listeners []) (sym same) (NoHub refl)
-are_served {L} hearing listeners (one ∷ rest) last (plays, follows) = choose (may_open hearing listeners one.line one.said one.calls one.left plays) (λ later. are_served hearing listeners rest last later)
+are_served {L} hearing listeners (one ∷ rest) last (plays, follows) = choose (may_open hearing listeners one.line one.said one.calls one.left plays)
+    (λ later. are_served hearing listeners rest last later)
   where
     front : one.calls ≡ [] → calls_of (one ∷ rest) ≡ calls_of rest
     front none = ap (λ (cs : List Call). cs ++ calls_of rest) none
 
-    choose : MayOpen listeners one.calls one.left → (Follows hearing (Waiting listeners) rest last → AreServed hearing listeners (calls_of rest) last) → AreServed hearing listeners (calls_of (one ∷ rest)) last
+    choose : MayOpen listeners one.calls one.left → (Follows hearing (Waiting listeners) rest last → AreServed hearing listeners (calls_of rest) last) →
+        AreServed hearing listeners (calls_of (one ∷ rest)) last
     choose may goes = subst (λ (cs : List Call). AreServed hearing listeners cs last) (sym (front may.none)) (elim may.opens [
       | inl same ↦ goes (subst (λ (stage : HubStage L). Follows hearing stage rest last) same follows)
-      | inr opens ↦ by_hub hearing opens.0 listeners opens.1 (calls_of rest) last opens.2 (all_calls hearing opens.1 rest last (subst (λ (stage : HubStage L). Follows hearing stage rest last) opens.3 follows))
+      | inr opens ↦ by_hub hearing opens.0 listeners opens.1 (calls_of rest) last opens.2
+          (all_calls hearing opens.1 rest last (subst (λ (stage : HubStage L). Follows hearing stage rest last) opens.3 follows))
     ])

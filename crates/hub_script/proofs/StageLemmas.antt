@@ -105,7 +105,8 @@ none_is None e = refl
 none_is (Some x) e = absurd (cc e)
 
 -- a line is refused
-refuses : {L : Type 0} (hearing : L → Hearing) (stage : HubStage L) (line : Line) (words reply : List ℕ) → Plays hearing stage line (words ∷ []) [] stage → reply ≡ reply_line words → MakesReply hearing stage line stage reply
+refuses : {L : Type 0} (hearing : L → Hearing) (stage : HubStage L) (line : Line) (words reply : List ℕ) → Plays hearing stage line (words ∷ []) [] stage →
+    reply ≡ reply_line words → MakesReply hearing stage line stage reply
 refuses hearing stage line words reply plays is = record { words = words; calls = []; plays = plays; text = is }
 
 module _ {X : Type 0} {H : X → Type 0} (hearing : DynBox X Global H → Hearing) (listeners : List (DynBox X Global H)) where
@@ -124,10 +125,12 @@ module _ {X : Type 0} {H : X → Type 0} (hearing : DynBox X Global H → Hearin
     refusal_made : MakesReply hearing (stage_in hub listeners) line (stage_in hub listeners) (reply_line (refused (words_of_refusal NoHub)))
     refusal_made = refused_waiting hub line (reply_line (refused (words_of_refusal NoHub))) none asks refl
 
-    pub waiting_played : (told_sink → now ≡ written ++ reply_line (refused (words_of_refusal NoHub))) → PlaysLine hearing (stream_of told_sink written now) (stage_in hub listeners) line (stage_in hub listeners)
+    pub waiting_played : (told_sink → now ≡ written ++ reply_line (refused (words_of_refusal NoHub))) → PlaysLine hearing (stream_of told_sink written now)
+        (stage_in hub listeners) line (stage_in hub listeners)
     waiting_played text = reply_played hearing told_sink (stage_in hub listeners) (stage_in hub listeners) line written now _ _ refusal_made refl text
 
-    pub waiting_unwritten : (told_sink → IsPartWritten (reply_line (refused (words_of_refusal NoHub))) written now) → PlaysUnwritten hearing (stream_of told_sink written now) (stage_in hub listeners) line (stage_in hub listeners)
+    pub waiting_unwritten : (told_sink → IsPartWritten (reply_line (refused (words_of_refusal NoHub))) written now) →
+        PlaysUnwritten hearing (stream_of told_sink written now) (stage_in hub listeners) line (stage_in hub listeners)
     waiting_unwritten text = reply_unwritten hearing told_sink (stage_in hub listeners) (stage_in hub listeners) line written now _ _ refusal_made refl text
 
   -- the stage of a hub that is there
@@ -152,7 +155,8 @@ module _ {X : Type 0} {H : X → Type 0} (hearing : DynBox X Global H → Hearin
     pub line_at_hub : PlaysLine hearing (stream_of told_sink written now) (Serving (seen hub)) line new → PlaysLine hearing (stream_of told_sink written now) (stage_in old listeners) line new
     line_at_hub plays = subst (λ (o : Option (Hub X H)). PlaysLine hearing (stream_of told_sink written now) (stage_in o listeners) line new) (sym is) plays
 
-    pub unwritten_at_hub : PlaysUnwritten hearing (stream_of told_sink written now) (Serving (seen hub)) line new → PlaysUnwritten hearing (stream_of told_sink written now) (stage_in old listeners) line new
+    pub unwritten_at_hub : PlaysUnwritten hearing (stream_of told_sink written now) (Serving (seen hub)) line new →
+        PlaysUnwritten hearing (stream_of told_sink written now) (stage_in old listeners) line new
     unwritten_at_hub plays = subst (λ (o : Option (Hub X H)). PlaysUnwritten hearing (stream_of told_sink written now) (stage_in o listeners) line new) (sym is) plays
 
   -- and that left it as it was
@@ -164,19 +168,23 @@ module _ {X : Type 0} {H : X → Type 0} (hearing : DynBox X Global H → Hearin
         → PlaysLine hearing (stream_of told_sink written now) (stage_in old listeners) (heard source) (stage_in old listeners)
     counted text = subst (λ (o : Option (Hub X H)). PlaysLine hearing (stream_of told_sink written now) (stage_in o listeners) (heard source) (stage_in o listeners)) (sym is)
         (one_played hearing told_sink (Serving (seen hub)) (Serving (seen hub)) (heard source) written now (words_of_heard (counts_of hearing (listed there.0))) [] (Counted there.0 within there.1)
-        (if_some (slice_get (seen hub).chains source) there.0 (λ (members : List (DynBox X Global H)). told_sink → now ≡ written ++ reply_line (words_of_heard (counts_of hearing (listed members)))) there.1 text))
+        (if_some (slice_get (seen hub).chains source) there.0 (λ (members : List (DynBox X Global H)). told_sink →
+        now ≡ written ++ reply_line (words_of_heard (counts_of hearing (listed members)))) there.1 text))
 
     pub counted_unwritten : IfSome (slice_get (seen hub).chains source) (λ members. told_sink → IsPartWritten (reply_line (words_of_heard (counts_of hearing (listed members)))) written now)
         → PlaysUnwritten hearing (stream_of told_sink written now) (stage_in old listeners) (heard source) (stage_in old listeners)
     counted_unwritten text = subst (λ (o : Option (Hub X H)). PlaysUnwritten hearing (stream_of told_sink written now) (stage_in o listeners) (heard source) (stage_in o listeners)) (sym is)
         (one_unwritten hearing told_sink (Serving (seen hub)) (Serving (seen hub)) (heard source) written now (words_of_heard (counts_of hearing (listed there.0))) [] (Counted there.0 within there.1)
-        (if_some (slice_get (seen hub).chains source) there.0 (λ (members : List (DynBox X Global H)). told_sink → IsPartWritten (reply_line (words_of_heard (counts_of hearing (listed members)))) written now) there.1 text))
+        (if_some (slice_get (seen hub).chains source) there.0 (λ (members : List (DynBox X Global H)). told_sink →
+        IsPartWritten (reply_line (words_of_heard (counts_of hearing (listed members)))) written now) there.1 text))
 
 module _ {L : Type 0} (hearing : L → Hearing) (hub : HubState L) where
-  pub nobody_given : (source : ℕ) (hex reply : List ℕ) → sources_in hub ≤ source → reply ≡ reply_line (refused (words_of_refusal Nobody)) → MakesReply hearing (Serving hub) (error source hex) (Serving hub) reply
+  pub nobody_given : (source : ℕ) (hex reply : List ℕ) → sources_in hub ≤ source → reply ≡ reply_line (refused (words_of_refusal Nobody)) →
+      MakesReply hearing (Serving hub) (error source hex) (Serving hub) reply
   nobody_given source hex reply none is = refuses hearing (Serving hub) (error source hex) (refused (words_of_refusal Nobody)) reply (NoSource none) is
 
-  pub not_taken : (new : HubState L) (source : ℕ) (hex block reply : List ℕ) (why : SubmitError) → new ≡ hub → source < sources_in hub → decode_of hex ≡ Ok block → IfSome (slice_get hub.sources.list source) (λ handover. refusal_of handover block ≡ Some why)
+  pub not_taken : (new : HubState L) (source : ℕ) (hex block reply : List ℕ) (why : SubmitError) → new ≡ hub → source < sources_in hub →
+      decode_of hex ≡ Ok block → IfSome (slice_get hub.sources.list source) (λ handover. refusal_of handover block ≡ Some why)
       → reply ≡ reply_line (refused (words_of_refusal (Submit why))) → MakesReply hearing (Serving hub) (error source hex) (Serving new) reply
   not_taken new source hex block reply why same within decoded refusal is =
       let at = some_at hub.sources.list source within in
@@ -184,7 +192,8 @@ module _ {L : Type 0} (hearing : L → Hearing) (hub : HubState L) where
       (refuses hearing (Serving hub) (error source hex) (refused (words_of_refusal (Submit why))) reply
       (NotTaken block at.0 why within decoded at.1 (if_some (slice_get hub.sources.list source) at.0 (λ (handover : Source). refusal_of handover block ≡ Some why) at.1 refusal)) is)
 
-  pub queued : (new : HubState L) (source n : ℕ) (hex block reply : List ℕ) → source < sources_in hub → decode_of hex ≡ Ok block → IfSome (slice_get hub.sources.list source) (λ handover. refusal_of handover block ≡ None)
+  pub queued : (new : HubState L) (source n : ℕ) (hex block reply : List ℕ) → source < sources_in hub → decode_of hex ≡ Ok block →
+      IfSome (slice_get hub.sources.list source) (λ handover. refusal_of handover block ≡ None)
       → HubSubmits source block hub new → IfSome (slice_get new.sources.list source) (λ handover. n ≡ length (waiting_of handover)) → reply ≡ reply_line (words_of_queued n)
       → MakesReply hearing (Serving hub) (error source hex) (Serving new) reply
   queued new source n hex block reply within decoded taken submits number is =
@@ -198,35 +207,48 @@ module _ {L : Type 0} (hearing : L → Hearing) (hub : HubState L) where
         text = is ∙ ap (λ (k : ℕ). reply_line (words_of_queued k)) (if_some (slice_get new.sources.list source) then.0 (λ (handover : Source). n ≡ length (waiting_of handover)) then.1 number);
       }
 
-  pub nobody_turned : (pairs reply : List ℕ) (at : ℕ) → 2 * at < length pairs → sources_in hub ≤ source_of (get_or pairs (2 * at) 0) → reply ≡ reply_line (refused (words_of_refusal Nobody)) → MakesReply hearing (Serving hub) (turns pairs) (Serving hub) reply
+  pub nobody_turned : (pairs reply : List ℕ) (at : ℕ) → 2 * at < length pairs → sources_in hub ≤ source_of (get_or pairs (2 * at) 0) →
+      reply ≡ reply_line (refused (words_of_refusal Nobody)) → MakesReply hearing (Serving hub) (turns pairs) (Serving hub) reply
   nobody_turned pairs reply at within none is = refuses hearing (Serving hub) (turns pairs) (refused (words_of_refusal Nobody)) reply (NotNamed at within none) is
 
-  pub nobody_heard : (source : ℕ) (reply : List ℕ) → sources_in hub ≤ source → reply ≡ reply_line (refused (words_of_refusal Nobody)) → MakesReply hearing (Serving hub) (heard source) (Serving hub) reply
+  pub nobody_heard : (source : ℕ) (reply : List ℕ) → sources_in hub ≤ source → reply ≡ reply_line (refused (words_of_refusal Nobody)) →
+      MakesReply hearing (Serving hub) (heard source) (Serving hub) reply
   nobody_heard source reply none is = refuses hearing (Serving hub) (heard source) (refused (words_of_refusal Nobody)) reply (NoneToCount none) is
 
-  pub nobody_dropped : (source at : ℕ) (reply : List ℕ) → sources_in hub ≤ source → reply ≡ reply_line (refused (words_of_refusal Nobody)) → MakesReply hearing (Serving hub) (removal source at) (Serving hub) reply
+  pub nobody_dropped : (source at : ℕ) (reply : List ℕ) → sources_in hub ≤ source → reply ≡ reply_line (refused (words_of_refusal Nobody)) →
+      MakesReply hearing (Serving hub) (removal source at) (Serving hub) reply
   nobody_dropped source at reply none is = refuses hearing (Serving hub) (removal source at) (refused (words_of_refusal Nobody)) reply (NoneToDrop none) is
 
-  pub no_listener : (source at n : ℕ) (reply : List ℕ) → length hub.chains ≡ sources_in hub → source < sources_in hub → IfSome (slice_get hub.chains source) (λ members. n ≡ min (length members) (2 ^ 32 - 1)) → n ≤ at
+  pub no_listener : (source at n : ℕ) (reply : List ℕ) → length hub.chains ≡ sources_in hub → source < sources_in hub → IfSome (slice_get hub.chains source)
+      (λ members. n ≡ min (length members) (2 ^ 32 - 1)) → n ≤ at
       → reply ≡ reply_line (refused (words_of_refusal Nobody)) → MakesReply hearing (Serving hub) (removal source at) (Serving hub) reply
   no_listener source at n reply one_each within count few is =
       let there = some_at hub.chains source (subst (λ (k : ℕ). source < k) (sym one_each) within) in
       let n_is = listed_count there.0 n (if_some (slice_get hub.chains source) there.0 (λ (members : List L). n ≡ min (length members) (2 ^ 32 - 1)) there.1 count) in
       refuses hearing (Serving hub) (removal source at) (refused (words_of_refusal Nobody)) reply (NoListener there.0 within there.1 (subst (λ (k : ℕ). k ≤ at) (sym n_is) few)) is
 
-  pub dropped : (new : HubState L) (source at n : ℕ) (reply : List ℕ) → length hub.chains ≡ sources_in hub → source < sources_in hub → IfSome (slice_get hub.chains source) (λ members. n ≡ min (length members) (2 ^ 32 - 1)) → at < n
+  pub dropped : (new : HubState L) (source at n : ℕ) (reply : List ℕ) → length hub.chains ≡ sources_in hub → source < sources_in hub →
+      IfSome (slice_get hub.chains source) (λ members. n ≡ min (length members) (2 ^ 32 - 1)) → at < n
       → HubRemoves source at hub new → reply ≡ reply_line (codes "dropped " ++ decimal source ++ codes " " ++ decimal at) → MakesReply hearing (Serving hub) (removal source at) (Serving new) reply
   dropped new source at n reply one_each within count some removes is =
       let there = some_at hub.chains source (subst (λ (k : ℕ). source < k) (sym one_each) within) in
       let n_is = listed_count there.0 n (if_some (slice_get hub.chains source) there.0 (λ (members : List L). n ≡ min (length members) (2 ^ 32 - 1)) there.1 count) in
-      record { words = codes "dropped " ++ decimal source ++ codes " " ++ decimal at; calls = Removes source at ∷ []; plays = Dropped there.0 new within there.1 (subst (λ (k : ℕ). at < k) (sym n_is) some) removes; text = is }
+      record {
+        words = codes "dropped " ++ decimal source ++ codes " " ++ decimal at;
+        calls = Removes source at ∷ [];
+        plays =
+            Dropped there.0 new within there.1 (subst (λ (k : ℕ). at < k) (sym n_is) some) removes;
+        text = is;
+      }
 
 -- a table for listeners that wait
 module _ {L : Type 0} (hearing : L → Hearing) (listeners : List L) (hex bytes reply : List ℕ) (decoded : decode_of hex ≡ Ok bytes) where
-  pub no_table : (why : HestError) → refusal bytes ≡ Some why → reply ≡ reply_line (refused (words_of_refusal (Table why))) → MakesReply hearing (Waiting listeners) (hest hex) (Waiting listeners) reply
+  pub no_table : (why : HestError) → refusal bytes ≡ Some why → reply ≡ reply_line (refused (words_of_refusal (Table why))) →
+      MakesReply hearing (Waiting listeners) (hest hex) (Waiting listeners) reply
   no_table why refusal is = refuses hearing (Waiting listeners) (hest hex) (refused (words_of_refusal (Table why))) reply (NoTable bytes why decoded refusal) is
 
-  pub opens : (n : ℕ) (table : List HestSource) (new : HubStage L) → n ≤ length bytes → IsHest table (take n bytes) → OpensFor listeners table new reply → MakesReply hearing (Waiting listeners) (hest hex) new reply
+  pub opens : (n : ℕ) (table : List HestSource) (new : HubStage L) → n ≤ length bytes → IsHest table (take n bytes) → OpensFor listeners table new reply →
+      MakesReply hearing (Waiting listeners) (hest hex) new reply
   opens n table new within begins is = elim is as (λ new reply is. MakesReply hearing (Waiting listeners) (hest hex) new reply) [
     | NotOpened why refusal ↦ record { words = refused (words_of_refusal (why_not.Hub why)); calls = []; plays = NoOpening bytes n table why decoded within begins refusal; text = refl }
     | IsOpen hub admits opened ↦ record { words = _; calls = []; plays = Opened bytes n table hub decoded within begins admits opened; text = refl }
@@ -234,14 +256,16 @@ module _ {L : Type 0} (hearing : L → Hearing) (listeners : List L) (hex bytes 
 
 -- a hub was opened for a table, or was not
 module _ {X : Type 0} {H : X → Type 0} (table : List HestSource) (old taken : Vec (DynBox X Global H) Global) (same : taken ≡ old) (reply : List ℕ) (hub : Option (Hub X H)) where
-  pub opened_for : (the : Hub X H) (waiting : List (DynBox X Global H)) (n : ℕ) → hub ≡ Some the → hub_refusal table ≡ None → IsOpened table taken.items (seen the) → n ≡ sources_in (seen the) → reply ≡ reply_line (words_of_opened n)
+  pub opened_for : (the : Hub X H) (waiting : List (DynBox X Global H)) (n : ℕ) → hub ≡ Some the → hub_refusal table ≡ None →
+      IsOpened table taken.items (seen the) → n ≡ sources_in (seen the) → reply ≡ reply_line (words_of_opened n)
       → OpensFor old.items table (stage_in hub waiting) reply
   opened_for the waiting n is admits opened count text =
       subst (λ (o : Option (Hub X H)). OpensFor old.items table (stage_in o waiting) reply) (sym is)
       (subst (OpensFor old.items table (Serving (seen the))) (sym (text ∙ ap (λ (k : ℕ). reply_line (words_of_opened k)) count))
       (IsOpen (seen the) admits (subst (λ (v : Vec (DynBox X Global H) Global). IsOpened table v.items (seen the)) same opened)))
 
-  pub not_opened_for : (back : List (DynBox X Global H)) (why : HubError) → hub ≡ None → back ≡ taken.items → hub_refusal table ≡ Some why → reply ≡ reply_line (refused (words_of_refusal (why_not.Hub why)))
+  pub not_opened_for : (back : List (DynBox X Global H)) (why : HubError) → hub ≡ None → back ≡ taken.items → hub_refusal table ≡ Some why →
+      reply ≡ reply_line (refused (words_of_refusal (why_not.Hub why)))
       → OpensFor old.items table (stage_in hub back) reply
   not_opened_for back why none kept refusal text =
       subst (λ (o : Option (Hub X H)). OpensFor old.items table (stage_in o back) reply) (sym none)

@@ -79,7 +79,8 @@ begins_even text i within room even good =
           | inr at ↦ elim (cases_lt i j) [
             | inl behind ↦
                 let e : j ≡ i + 1 = omega (arith, l, n, w, behind) in
-                let c : get_or (take i text ++ 48 ∷ 70 ∷ []) (i + 1) 0 ≡ 70 = ap (λ (xs : List ℕ). get_or xs (i + 1) 0) apart ∙ get_or_at (take i text ++ 48 ∷ []) 70 [] 0 (i + 1) (omega (arith, l, m)) in
+                let c : get_or (take i text ++ 48 ∷ 70 ∷ []) (i + 1) 0 ≡ 70 = ap (λ (xs : List ℕ). get_or xs (i + 1) 0) apart ∙ get_or_at
+                (take i text ++ 48 ∷ []) 70 [] 0 (i + 1) (omega (arith, l, m)) in
                 subst (λ (k : ℕ). IsTrue (may_stand k (get_or (take i text ++ 48 ∷ 70 ∷ []) k 0))) (sym e)
                 (subst (λ (x : ℕ). IsTrue (may_stand (i + 1) x)) (sym c) (stand_odd (i + 1) 70 (omega (arith, even))))
             | inr same ↦

@@ -26,7 +26,8 @@ sum_around geometry checksum = refl
 
 sum_with : (geometry : Geometry) (checksum : ℕ) → checksum < 2 ^ 32 → word_sum 12 (header_with geometry checksum) ≡ word_sum 12 (header_with geometry 0) + checksum
 sum_with geometry checksum small =
-    let with : word_sum 12 (header_with geometry checksum) ≡ word_sum 10 (header_with geometry 0) + little (spelled 4 checksum) + number_at (header_with geometry 0) 44 4 = sum_around geometry checksum in
+    let with : word_sum 12 (header_with geometry checksum) ≡ word_sum 10 (header_with geometry 0) + little (spelled 4 checksum) + number_at
+    (header_with geometry 0) 44 4 = sum_around geometry checksum in
     let without : word_sum 12 (header_with geometry 0) ≡ word_sum 10 (header_with geometry 0) + little (spelled 4 0) + number_at (header_with geometry 0) 44 4 = sum_around geometry 0 in
     let is : little (spelled 4 checksum) ≡ checksum = little-spelled 4 checksum small in
     let none : little (spelled 4 0) ≡ 0 = little-spelled 4 0 (lit< tt) in

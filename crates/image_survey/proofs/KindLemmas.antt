@@ -3,7 +3,8 @@ use Rattle.std.proofs.Common.{◌≡◌, ℕ, ◌-◌, ◌<◌, Bool, true, fals
 use Rattle.std.specs.Prelude.{◌==◌, ◌&&◌, if◌then◌else◌}
 use Rattle.std.specs.FinMap.{get}
 use Rattle.flash_model.specs.declared.geometry.Geometry.{Geometry}
-use Rattle.record_model.specs.Records.{Head, Entry, slot_at, is_upright, is_up, entry_of, entry_at, is_first, is_taken, stored_in, record_of, gate_open, gate_closed, gate_further, not_killed, tail_mark}
+use Rattle.record_model.specs.Records.{Head, Entry, slot_at, is_upright, is_up, entry_of, entry_at, is_first, is_taken, stored_in, record_of, gate_open}
+use Rattle.record_model.specs.Records.{gate_closed, gate_further, not_killed, tail_mark}
 use Rattle.record_model.proofs.ChosenLemmas.{chosen_or_none, get-no_slot}
 use Rattle.record_model.proofs.FirstLemmas.{chosen-is_first, is_first-chosen}
 use Rattle.record_model.proofs.LiveLemmas.{live_record, up_entry}

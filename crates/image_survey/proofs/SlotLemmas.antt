@@ -104,7 +104,8 @@ first_holds room slots seen n j head b within first is held =
     let chosen = is_first-chosen (entry_of room slots seen) slots n within first in
     let live = live_entry room slots seen n chosen.0 (chosen.1).here in
     held ∙ ap (λ (h : Head). j == n || list_any (λ m. j == m) (further_of room h)) is
-    ∙ sym (ap (λ (o : Option Entry). holds o n j) (cond-true {A = Option Entry} (is_first (entry_of room slots seen) slots n) (entry_of room slots seen n) None first ∙ entry_live room slots seen n live))
+    ∙ sym (ap (λ (o : Option Entry). holds o n j) (cond-true {A = Option Entry} (is_first (entry_of room slots seen) slots n) (entry_of room slots seen n) None
+    first ∙ entry_live room slots seen n live))
 
 -- the first n of three numbers
 three_of : (next : List ℕ) → length next ≡ 3 → next ≡ get_or next 0 0 ∷ get_or next 1 0 ∷ get_or next 2 0 ∷ []

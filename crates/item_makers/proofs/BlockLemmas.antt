@@ -56,7 +56,8 @@ is_made fields section bytes is none =
     let size : length bytes ≡ 20 + length content = is.spelling.4 in
     let head_long : length (joined head) ≡ 20 = length-head (status_for fields.severity) offset 0 (length content) (severity_number fields.severity) in
     let parts_are : parts head_sizes 0 bytes ≡ head =
-    parts_of head head_sizes (content ++ rest) bytes (head_sized (status_for fields.severity) offset 0 (length content) (severity_number fields.severity)) (all ∙ append_assoc (joined head) content rest) in
+    parts_of head head_sizes (content ++ rest) bytes (head_sized (status_for fields.severity) offset 0 (length content) (severity_number fields.severity))
+    (all ∙ append_assoc (joined head) content rest) in
     let offset_is : offset ≡ 0 = sym (number_of bytes 4 4 offset (ap (λ (xss : List (List ℕ)). get_or xss 1 []) parts_are) is.spelling.2) ∙ none in
     let rest_none : rest ≡ [] = nil_from_length rest (omega (arith, ap length all, length-append (joined head ++ content) rest, length-append (joined head) content, head_long, size)) in
     all
@@ -68,7 +69,8 @@ is_made fields section bytes is none =
     ∙ sym (fields_are fields section)
 
 -- what the writer left at the front of the bytes
-pub made : (fields : BlockFields) (section before now : List ℕ) (end : ℕ) → 92 + length section ≤ length now → IsWritten (made_block fields section) end before now → now ≡ put_at before 0 (block_bytes fields section)
+pub made : (fields : BlockFields) (section before now : List ℕ) (end : ℕ) → 92 + length section ≤ length now → IsWritten (made_block fields section) end before
+    now → now ≡ put_at before 0 (block_bytes fields section)
 unfolding number_at
 made fields section before now end room written =
     let size = 92 + length section in
@@ -77,8 +79,10 @@ made fields section before now end room written =
     put_first (block_bytes fields section) before now size first (ap length (sym first) ∙ length-take-le size now room) written.after
 
 -- of a status, a severity and an entry that say what was given
-pub left : (fields : BlockFields) (section before now : List ℕ) (end size status severity : ℕ) (head : EntryHead) → status ≡ status_for fields.severity → severity ≡ severity_number fields.severity → head ≡ entry_head fields → size ≡ 92 + length section
-    → IsWritten (record { status = status; severity = severity; entries = (record { head = head; body = section }) ∷ []; raw = []; size = size }) end before now → IsWritten (made_block fields section) end before now
+pub left : (fields : BlockFields) (section before now : List ℕ) (end size status severity : ℕ) (head : EntryHead) → status ≡ status_for fields.severity →
+    severity ≡ severity_number fields.severity → head ≡ entry_head fields → size ≡ 92 + length section
+    → IsWritten (record { status = status; severity = severity; entries = (record { head = head; body = section }) ∷ []; raw = []; size = size }) end before now
+    → IsWritten (made_block fields section) end before now
 left fields section before now end size status severity head status_is severity_is head_is size_is written =
     let same : ◌≡◌ {A = BlockValue} (record { status = status; severity = severity; entries = (record { head = head; body = section }) ∷ []; raw = []; size = size }) (made_block fields section) =
     rw (status_is, severity_is, head_is, size_is) refl in

@@ -58,7 +58,8 @@ is_made fields section bytes size is =
     all ∙ ap (λ (xs : List ℕ). head ++ descriptor ++ xs) (sym (body ∙ behind)) ∙ sym (fields_are fields section)
 
 -- what the writer left at the front of the bytes
-pub made : (fields : RecordFields) (section before now : List ℕ) (size : ℕ) → size ≡ 200 + length section → size ≤ length now → IsWritten (made_record fields section) size before now → now ≡ put_at before 0 (record_bytes fields section)
+pub made : (fields : RecordFields) (section before now : List ℕ) (size : ℕ) → size ≡ 200 + length section → size ≤ length now →
+    IsWritten (made_record fields section) size before now → now ≡ put_at before 0 (record_bytes fields section)
 made fields section before now size size_is room written =
     let first : take size now ≡ record_bytes fields section = is_made fields section (take size now) (length-take-le size now room ∙ size_is) written.is_record in
     put_first (record_bytes fields section) before now size first (ap length (sym first) ∙ length-take-le size now room) written.after

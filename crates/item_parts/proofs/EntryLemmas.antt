@@ -33,7 +33,16 @@ entry_part_at at (first ∷ entries) (suc i) entry e =
 
 -- the entry that 32 bytes are
 entry_in : List ℕ → Entry
-entry_in bytes = record { action = get_or bytes 0 0; code = get_or bytes 1 0; flags = get_or bytes 2 0; spare = get_or bytes 3 0; region = gas_at (part bytes 4 12); value = number_at bytes 16 8; mask = number_at bytes 24 8 }
+entry_in bytes = record {
+  action = get_or bytes 0 0;
+  code = get_or bytes 1 0;
+  flags = get_or bytes 2 0;
+  spare = get_or bytes 3 0;
+  region =
+      gas_at (part bytes 4 12);
+  value = number_at bytes 16 8;
+  mask = number_at bytes 24 8;
+}
 
 part_bytes : (bytes : List ℕ) (at n : ℕ) → AreBytes bytes → AreBytes (part bytes at n)
 unfolding part

@@ -14,7 +14,9 @@ use Rattle.item_parts.specs.declared.faults.ItemError.{ItemError}
 use Rattle.item_parts.specs.declared.faults.ItemError.TheVariants.{Erst, Hest, Bert, Record, Block}
 use Rattle.item_parts.specs.declared.faults.Fault.{Fault}
 use Rattle.item_parts.specs.declared.faults.FaultKind.{FaultKind}
-use Rattle.item_parts.specs.declared.faults.FaultKind.TheVariants.{TableShort, TableSignature, TableLength, TableSum, HeaderSize, EntryCount, SourceType, SourceCut, SourceCount, RecordShort, RecordStart, RecordEnd, RecordLength, RecordSection, RecordLimit, BlockShort, BlockNotPublished, BlockRawOffset, BlockEntry, BlockRest}
+use Rattle.item_parts.specs.declared.faults.FaultKind.TheVariants.{TableShort, TableSignature, TableLength, TableSum, HeaderSize, EntryCount, SourceType}
+use Rattle.item_parts.specs.declared.faults.FaultKind.TheVariants.{SourceCut, SourceCount, RecordShort, RecordStart, RecordEnd, RecordLength, RecordSection}
+use Rattle.item_parts.specs.declared.faults.FaultKind.TheVariants.{RecordLimit, BlockShort, BlockNotPublished, BlockRawOffset, BlockEntry, BlockRest}
 
 abbrev pub number_of_kind : FaultKind → ℕ
 number_of_kind TableShort = 1

@@ -39,7 +39,8 @@ module _ (addresses : Addresses) (old : SpaceState) (there : old.port.addresses 
   in_registers at k is small =
       subst (λ (n : ℕ). place_in (caught_up old).port (Memory n) ≡ Some (Registers, k)) (ap (λ (a : Addresses). a.registers + k) there ∙ sym is) (place-register (caught_up old).port k small)
 
-  in_range : (at k : ℕ) → are_apart (length old.port.range) old.port.addresses ≡ true → at ≡ addresses.range + k → k < length old.port.range → place_in (caught_up old).port (Memory at) ≡ Some (LogRange, k)
+  in_range : (at k : ℕ) → are_apart (length old.port.range) old.port.addresses ≡ true → at ≡ addresses.range + k → k < length old.port.range →
+      place_in (caught_up old).port (Memory at) ≡ Some (LogRange, k)
   in_range at k apart is small =
       subst (λ (n : ℕ). place_in (caught_up old).port (Memory n) ≡ Some (LogRange, k)) (ap (λ (a : Addresses). a.range + k) there ∙ sym is) (place-range (caught_up old).port k apart small)
 
@@ -145,7 +146,8 @@ module _ (addresses : Addresses) (old new : SpaceState) where
         let place = in_range addresses old goes.there at k goes.before.apart is (omega (arith, some, fits)) in
         let bytes_at = range-bytes (length old.port.range) k (length bytes) fits in
         let answer_is : answer ≡ Ok tt =
-        goes.does.0 ∙ ap (λ (p : Option (Window × ℕ)). (bytes_stored_at p (caught_up old).port at bytes).0) place ∙ ap (λ (s : Location). as_told at B8 (bytes_stored s (caught_up old).port bytes).0) bytes_at in
+        goes.does.0 ∙ ap (λ (p : Option (Window × ℕ)). (bytes_stored_at p (caught_up old).port at bytes).0) place
+        ∙ ap (λ (s : Location). as_told at B8 (bytes_stored s (caught_up old).port bytes).0) bytes_at in
         let new_is : new ≡ record (caught_up old) { port = with_bytes k bytes (caught_up old).port } =
         goes.does.1 ∙ ap (λ (p : Option (Window × ℕ)). record (caught_up old) { port = (bytes_stored_at p (caught_up old).port at bytes).1 }) place
         ∙ ap (λ (s : Location). record (caught_up old) { port = (bytes_stored s (caught_up old).port bytes).1 }) bytes_at in (
@@ -164,7 +166,8 @@ module _ (addresses : Addresses) (old new : SpaceState) where
         let place = in_range addresses old goes.there at k goes.before.apart is (omega (arith, some, fits)) in
         let bytes_at = range-bytes (length old.port.range) k (length before) fits in
         let answer_is : answer ≡ Ok tt =
-        goes.does.0 ∙ ap (λ (p : Option (Window × ℕ)). (bytes_read_at p (caught_up old).port at before).0) place ∙ ap (λ (s : Location). as_told at B8 (bytes_read s (caught_up old).port before).0) bytes_at in
+        goes.does.0 ∙ ap (λ (p : Option (Window × ℕ)). (bytes_read_at p (caught_up old).port at before).0) place
+        ∙ ap (λ (s : Location). as_told at B8 (bytes_read s (caught_up old).port before).0) bytes_at in
         let after_is : after ≡ part old.port.range k (length before) =
         goes.does.1 ∙ ap (λ (p : Option (Window × ℕ)). (bytes_read_at p (caught_up old).port at before).1) place ∙ ap (λ (s : Location). (bytes_read s (caught_up old).port before).1) bytes_at in (
           answer_is,

@@ -87,8 +87,10 @@ same_answer x y e = cc
 no_stop : (x : ℕ) (stop : RunStop) → ◌≡◌ {A = Result ℕ RunStop} (Err stop) (Ok x) → ⊥
 no_stop x stop e = absurd (cc e)
 
-module _ (first : SpaceState) (addresses : Addresses) (action : Action) (n : ℕ) (old : SpaceState) (caught : telling n old ≡ telling n first) (shows : (mid : SpaceState) → Takes addresses old (code_of action) mid → Shows n old mid)
-    (program : (given budget : ℕ) (result : Result ℕ RunStop) (left : ℕ) (last : SpaceState) → Performs (Goes addresses) (port_entries addresses.registers) action given budget old result left last → ToldRun addresses (code_of action) budget old result left last) where
+module _ (first : SpaceState) (addresses : Addresses) (action : Action) (n : ℕ) (old : SpaceState) (caught : telling n old ≡ telling n first)
+    (shows : (mid : SpaceState) → Takes addresses old (code_of action) mid → Shows n old mid)
+    (program : (given budget : ℕ) (result : Result ℕ RunStop) (left : ℕ) (last : SpaceState) → Performs (Goes addresses) (port_entries addresses.registers)
+    action given budget old result left last → ToldRun addresses (code_of action) budget old result left last) where
   ran : (budget : ℕ) (result : Result ℕ RunStop) (left : ℕ) (last : SpaceState) → 2 ≤ budget → ToldRun addresses (code_of action) budget old result left last
       → (result ≡ Ok (n % 2 ^ 64)) × (left + 2 ≡ budget) × (last ≡ telling n first)
   ran budget result left last enough run = elim run as (λ result left last run. (result ≡ Ok (n % 2 ^ 64)) × (left + 2 ≡ budget) × (last ≡ telling n first)) [
@@ -149,13 +151,27 @@ client_is first port address len timings address_is len_is timings_is =
     let times = timings-halves first.port.device.store.layout in
     let greatest : timings / 2 ^ 32 ≡ 10 * most_changes first.port.device.store.layout = ap (λ (n : ℕ). n / 2 ^ 32) timings_is ∙ times.0 in
     let nominal : timings % 2 ^ 32 ≡ 10 * (first.port.device.store.layout.per_slot + 4) = ap (λ (n : ℕ). n % 2 ^ 32) timings_is ∙ times.1 in
-    ap (λ (t : Bool). cond {A = Result ClientState AttachError} t (Err (NoRange len)) (Ok (client_of (port_erst first.port.addresses.registers) (address ∷ len ∷ 0 ∷ timings ∷ [])))) (le-ltb len 128 (omega (arith, range, least)))
+    ap (λ (t : Bool). cond {A = Result ClientState AttachError} t (Err (NoRange len))
+    (Ok (client_of (port_erst first.port.addresses.registers) (address ∷ len ∷ 0 ∷ timings ∷ [])))) (le-ltb len 128 (omega (arith, range, least)))
     ∙ ap (λ (n : ℕ). Ok (record { table = port_erst first.port.addresses.registers; address = n; range = len; timings = Some (timings / 2 ^ 32, timings % 2 ^ 32) })) place
     ∙ ap (λ (n : ℕ). Ok (record { table = port_erst first.port.addresses.registers; address = first.port.addresses.range; range = n; timings = Some (timings / 2 ^ 32, timings % 2 ^ 32) })) range
-    ∙ ap (λ (n : ℕ). Ok (record { table = port_erst first.port.addresses.registers; address = first.port.addresses.range; range = reach_of (room_of first.port.device.store.layout); timings = Some (n, timings % 2 ^ 32) })) greatest
-    ∙ ap (λ (n : ℕ). Ok (record { table = port_erst first.port.addresses.registers; address = first.port.addresses.range; range = reach_of (room_of first.port.device.store.layout); timings = Some (10 * most_changes first.port.device.store.layout, n) })) nominal
+    ∙ ap (λ (n : ℕ). Ok (record {
+      table = port_erst first.port.addresses.registers;
+      address = first.port.addresses.range;
+      range =
+          reach_of (room_of first.port.device.store.layout);
+      timings = Some (n, timings % 2 ^ 32);
+    })) greatest
+    ∙ ap (λ (n : ℕ). Ok (record {
+      table = port_erst first.port.addresses.registers;
+      address = first.port.addresses.range;
+      range =
+          reach_of (room_of first.port.device.store.layout);
+      timings = Some (10 * most_changes first.port.device.store.layout, n);
+    })) nominal
 
-all_answers : (a b c d : ℕ) (all three two one none : Result (List ℕ) RunStop) → all ≡ with_answer a three → three ≡ with_answer b two → two ≡ with_answer c one → one ≡ with_answer d none → none ≡ Ok []
+all_answers : (a b c d : ℕ) (all three two one none : Result (List ℕ) RunStop) → all ≡ with_answer a three → three ≡ with_answer b two → two ≡ with_answer c one
+    → one ≡ with_answer d none → none ≡ Ok []
     → all ≡ Ok (a ∷ b ∷ c ∷ d ∷ [])
 all_answers a b c d all three two one none first second third fourth end =
     first ∙ ap (with_answer a) (second ∙ ap (with_answer b) (third ∙ ap (with_answer c) (fourth ∙ ap (with_answer d) end)))
@@ -166,20 +182,25 @@ attaches_port first port run enough attaches =
     let addresses = first.port.addresses in
     let len = reach_of (room_of first.port.device.store.layout) in
     let timings = timings_of first.port.device.store.layout in
-    let asks = subst (λ (rs : List Request). Asks (Goes first.port.addresses) (port_entries first.port.addresses.registers) rs run.budget first attaches.answers run.left run.last) (requests-port first.port.addresses.registers) attaches.asks in
+    let asks = subst (λ (rs : List Request). Asks (Goes first.port.addresses) (port_entries first.port.addresses.registers) rs run.budget first attaches.answers
+    run.left run.last) (requests-port first.port.addresses.registers) attaches.asks in
     let one = answered first addresses GetErrorLogAddressRange addresses.range first refl (λ mid takes. shows_address addresses first mid takes)
     (λ given budget result left last run. runs_address addresses first given budget result left last run) _ run.budget attaches.answers run.left run.last (omega (arith, enough)) asks in
     let two = answered first addresses GetErrorLogAddressRangeLength len (telling addresses.range first) refl
     (λ mid takes. shows_number addresses (telling addresses.range first) mid GetErrorLogAddressRangeLength len refl (λ e. absurd (omega (arith, e))) (λ e. absurd (omega (arith, e))) refl takes)
-    (λ given budget result left last run. runs_length addresses (telling addresses.range first) given budget result left last run) _ one.asked one.others run.left run.last (omega (arith, enough, one.spent)) one.more in
+    (λ given budget result left last run. runs_length addresses (telling addresses.range first) given budget result left last run) _ one.asked one.others
+    run.left run.last (omega (arith, enough, one.spent)) one.more in
     let three = answered first addresses GetErrorLogAddressRangeAttributes 0 (telling len first) refl
     (λ mid takes. shows_number addresses (telling len first) mid GetErrorLogAddressRangeAttributes 0 refl (λ e. absurd (omega (arith, e))) (λ e. absurd (omega (arith, e))) refl takes)
-    (λ given budget result left last run. runs_attributes addresses (telling len first) given budget result left last run) _ two.asked two.others run.left run.last (omega (arith, enough, one.spent, two.spent)) two.more in
+    (λ given budget result left last run. runs_attributes addresses (telling len first) given budget result left last run) _ two.asked two.others run.left
+    run.last (omega (arith, enough, one.spent, two.spent)) two.more in
     let four = answered first addresses GetExecuteOperationTimings timings (telling 0 first) refl
     (λ mid takes. shows_number addresses (telling 0 first) mid GetExecuteOperationTimings timings refl (λ e. absurd (omega (arith, e))) (λ e. absurd (omega (arith, e))) refl takes)
-    (λ given budget result left last run. runs_timings addresses (telling 0 first) given budget result left last run) _ three.asked three.others run.left run.last (omega (arith, enough, one.spent, two.spent, three.spent)) three.more in
+    (λ given budget result left last run. runs_timings addresses (telling 0 first) given budget result left last run) _ three.asked three.others run.left
+    run.last (omega (arith, enough, one.spent, two.spent, three.spent)) three.more in
     let end = none_asked (Goes addresses) (port_entries addresses.registers) four.asked (telling timings first) four.others run.left run.last four.more in
-    let answers = all_answers (addresses.range % 2 ^ 64) (len % 2 ^ 64) 0 (timings % 2 ^ 64) attaches.answers one.others two.others three.others four.others one.answers_are two.answers_are three.answers_are four.answers_are end.result_is in
+    let answers = all_answers (addresses.range % 2 ^ 64) (len % 2 ^ 64) 0 (timings % 2 ^ 64) attaches.answers one.others two.others three.others four.others
+    one.answers_are two.answers_are three.answers_are four.answers_are end.result_is in
     record {
       result_is = attaches.result_is ∙ ap (attached (port_erst addresses.registers)) answers ∙ client_is first port (addresses.range % 2 ^ 64) (len % 2 ^ 64) (timings % 2 ^ 64) refl refl refl;
       left_is = omega (arith, end.left_is, four.spent, three.spent, two.spent, one.spent);

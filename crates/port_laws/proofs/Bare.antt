@@ -7,7 +7,9 @@ use Rattle.record_model.specs.Records.{Stored, is_reserved}
 use Rattle.record_model.specs.RecordMap.{Refusal, Write as write_command, Clear as clear_command, refusal_of}
 use Rattle.record_store.specs.Store.{Pending, Clearing}
 use Rattle.erst_entries.specs.declared.actions.Action.{Action}
-use Rattle.erst_entries.specs.declared.actions.Action.TheVariants.{BeginWriteOperation, BeginReadOperation, BeginClearOperation, EndOperation, SetRecordOffset, ExecuteOperation, CheckBusyStatus, GetRecordIdentifier, SetRecordIdentifier, GetRecordCount, BeginDummyWriteOperation}
+use Rattle.erst_entries.specs.declared.actions.Action.TheVariants.{BeginWriteOperation, BeginReadOperation, BeginClearOperation, EndOperation, SetRecordOffset}
+use Rattle.erst_entries.specs.declared.actions.Action.TheVariants.{ExecuteOperation, CheckBusyStatus, GetRecordIdentifier, SetRecordIdentifier, GetRecordCount}
+use Rattle.erst_entries.specs.declared.actions.Action.TheVariants.{BeginDummyWriteOperation}
 use Rattle.erst_device.specs.declared.registers.Operation.{Operation}
 use Rattle.erst_device.specs.declared.registers.Operation.TheVariants.{Write, Read, Clear, Dummy}
 use Rattle.erst_device.specs.Drafts.{draft_at}
@@ -16,7 +18,8 @@ use Rattle.erst_device.specs.DeviceState.{is_busy}
 use Rattle.erst_device.specs.Actions.{told_by}
 use Rattle.erst_commands.specs.Equivalence.{DeviceOutline}
 use Rattle.erst_commands.proofs.StoreOutlines.{write_pending}
-use Rattle.erst_commands.proofs.DeviceOutlines.{running, giving_up, start_by, start_write, show_record, find_record, start_read, start_clear, start, step_on, go_on, find_next, tell, become, range_shown, range_after, looks, IsFound, found_once, Became}
+use Rattle.erst_commands.proofs.DeviceOutlines.{running, giving_up, start_by, start_write, show_record, find_record, start_read, start_clear, start, step_on}
+use Rattle.erst_commands.proofs.DeviceOutlines.{go_on, find_next, tell, become, range_shown, range_after, looks, IsFound, found_once, Became}
 use Rattle.port_laws.specs.Equivalence.{bare}
 
 by_test : (b : Bool) (x y other also : DeviceOutline) → bare x ≡ bare other → bare y ≡ bare also → bare (if b then x else y) ≡ bare (if b then other else also)
@@ -30,7 +33,8 @@ start_by_bare (Some refusal) pending o = refl
 start_write_bare : (draft : Option (ℕ × ℕ)) (o : DeviceOutline) (range : List ℕ) → bare (start_write draft o range) ≡ bare (start_write draft (bare o) range)
 start_write_bare None o range = refl
 start_write_bare (Some draft) o range =
-    start_by_bare (refusal_of o.store.layout (write_command draft.1 (part range o.offset draft.0)) o.store.records) (write_pending o.store.layout o.store.records draft.1 (part range o.offset draft.0)) o
+    start_by_bare (refusal_of o.store.layout (write_command draft.1 (part range o.offset draft.0)) o.store.records)
+    (write_pending o.store.layout o.store.records draft.1 (part range o.offset draft.0)) o
 
 show_bare : (beyond : Bool) (id : ℕ) (o : DeviceOutline) → bare (show_record beyond id o) ≡ bare (show_record beyond id (bare o))
 show_bare true id o = refl

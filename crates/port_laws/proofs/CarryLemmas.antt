@@ -29,7 +29,8 @@ use Rattle.erst_interp.proofs.StraightLemmas.{whole_of, refused_of}
 pub record IsCarried {W V : Type 0} (allows : W → Call → W → Type 0) (onto : V → Call → V → Type 0) (image : W → V) (entry other : Entry) : Type 0 where
   pub step : (given len : ℕ) (at d : Configuration) (more : ℕ) (old new : W) → Step allows (record { entry = entry; given = given; len = len; at = at }) old d more new
       → Step onto (record { entry = other; given = given; len = len; at = at }) (image old) d more (image new)
-  pub halts : (given len : ℕ) (at : Configuration) (paid : ℕ) (old : W) (stop : RunStop) (left : ℕ) (new : W) → Halt allows (record { entry = entry; given = given; len = len; at = at }) paid old stop left new → ⊥
+  pub halts : (given len : ℕ) (at : Configuration) (paid : ℕ) (old : W) (stop : RunStop) (left : ℕ) (new : W) →
+      Halt allows (record { entry = entry; given = given; len = len; at = at }) paid old stop left new → ⊥
 
 pub data AreCarried {W V : Type 0} (allows : W → Call → W → Type 0) (onto : V → Call → V → Type 0) (image : W → V) : List Entry → List Entry → Type 0 where
   NoEntry : AreCarried allows onto image [] []
@@ -62,11 +63,13 @@ module _ {W V : Type 0} (allows : W → Call → W → Type 0) (onto : V → Cal
     walk_carried left c last Begun = Begun
     walk_carried left c last (Then before at mid entry d more after new walk here step sum) =
         let other = other_at entries others all at.place entry here in
-        let carried : Step onto (record { entry = other.0; given = given; len = length entries; at = at }) (image mid) d more (image new) = other.1.1.step given (length entries) at d more mid new step in
+        let carried : Step onto (record { entry = other.0; given = given; len = length entries; at = at }) (image mid) d more (image new) =
+        other.1.1.step given (length entries) at d more mid new step in
         Then before at (image mid) other.0 d more after (image new) (walk_carried before at mid walk) other.1.0
         (subst (λ (n : ℕ). Step onto (record { entry = other.0; given = given; len = n; at = at }) (image mid) d more (image new)) (same_length entries others all) carried) sum
 
-    pub run_carried : (answer : Result ℕ RunStop) (left : ℕ) (last : W) → Run allows program given budget first answer left last → Run onto other_program given budget (image first) answer left (image last)
+    pub run_carried : (answer : Result ℕ RunStop) (left : ℕ) (last : W) → Run allows program given budget first answer left last →
+        Run onto other_program given budget (image first) answer left (image last)
     run_carried answer left last run = elim run as (λ answer left last run. Run onto other_program given budget (image first) answer left (image last)) [
       | NoProgram none may ↦ NoProgram (sym (same_length entries others all) ∙ none) may
       | Finishes left c last has walk end ↦ Finishes left c (image last) (has_other has) (walk_carried left c last walk) (subst (λ (n : ℕ). n ≤ c.place) (same_length entries others all) end)
@@ -120,12 +123,14 @@ module _ {W V : Type 0} (allows : W → Call → W → Type 0) (onto : V → Cal
       (subst (λ (c : Configuration). Step onto (moved region task) (image old) c 0 (image new)) (sym by.2) done)
 
   pub take_halts : ReadsCarried allows onto image place other access → (task : Task) (i : Instruction) (taken : ℕ → Configuration) → instruction_of task.entry.code ≡ Some i
-      → work_of task i ≡ TakeField taken → checked task.entry.region ≡ Ok (register_at place access) → (paid : ℕ) (old : W) (stop : RunStop) (left : ℕ) (new : W) → Halt allows task paid old stop left new → ⊥
+      → work_of task i ≡ TakeField taken → checked task.entry.region ≡ Ok (register_at place access) → (paid : ℕ) (old : W) (stop : RunStop) (left : ℕ)
+      (new : W) → Halt allows task paid old stop left new → ⊥
   take_halts reads task i taken code work here paid old stop left new halt =
       let by : HaltBy allows task paid old (TakeField taken) stop left new =
       subst (λ (w : Work). HaltBy allows task paid old w stop left new) work (halt_by allows task i code (λ uses. (register_at place access, here)) paid old stop left new halt) in
       let same = same_register (register_at place access) by.0 (checked task.entry.region) here by.2 in
-      reads.served old new by.1 (refused_of allows (register_at place access) task.entry.mask old (Err by.1) new by.1 (subst (λ (r : Register). FieldRead allows r task.entry.mask old (Err by.1) new) same by.3) refl)
+      reads.served old new by.1 (refused_of allows (register_at place access) task.entry.mask old (Err by.1) new by.1
+      (subst (λ (r : Register). FieldRead allows r task.entry.mask old (Err by.1) new) same by.3) refl)
 
   -- and one that stores a value over its whole register
   pub store_step : (task : Task) (region : Gas) (i : Instruction) (value : ℕ) → WritesCarried allows onto image place other access (stored value 0 task.entry.mask) → bit_and task.entry.flags 1 ≡ 0
@@ -148,4 +153,5 @@ module _ {W V : Type 0} (allows : W → Call → W → Type 0) (onto : V → Cal
       let by : HaltBy allows task paid old (StoreValue value) stop left new =
       subst (λ (w : Work). HaltBy allows task paid old w stop left new) work (halt_by allows task i code (λ uses. (register_at place access, here)) paid old stop left new halt) in
       let same = same_register (register_at place access) by.0 (checked task.entry.region) here by.2 in
-      writes.served old new by.1 (whole_of allows (register_at place access) task.entry value old (Err by.1) new (subst (λ (r : Register). Store allows r task.entry value old (Err by.1) new) same by.3) whole)
+      writes.served old new by.1 (whole_of allows (register_at place access) task.entry value old (Err by.1) new
+      (subst (λ (r : Register). Store allows r task.entry value old (Err by.1) new) same by.3) whole)

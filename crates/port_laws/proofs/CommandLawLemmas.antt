@@ -18,7 +18,8 @@ use Rattle.erst_commands.specs.Changes.{ChangeCommand, IsTaken, IsRefused, IsFai
 use Rattle.erst_commands.specs.Looks.{Answers, StopsBehind, StopsAtOnce}
 use Rattle.erst_commands.specs.Operations.{ClientOperation, WriteOperation, ReadOperation, ClearOperation, DummyWriteOperation, requests_of}
 use Rattle.erst_commands.specs.Runs.{CallFrom, own_table, shown_run, IsSequence, IsCount, IsWrite, IsRead}
-use Rattle.erst_commands.specs.Theorems.{timings_in, EachCountIsTheMaps, EachWriteIsTheMaps, EachClearIsTheMaps, EachDummyWriteChangesNothing, EachReadIsTheMaps, ClientWritesAsTheMap, ClientReadsAsTheMap}
+use Rattle.erst_commands.specs.Theorems.{timings_in, EachCountIsTheMaps, EachWriteIsTheMaps, EachClearIsTheMaps, EachDummyWriteChangesNothing}
+use Rattle.erst_commands.specs.Theorems.{EachReadIsTheMaps, ClientWritesAsTheMap, ClientReadsAsTheMap}
 use Rattle.erst_commands.specs.Theorems.{EachSequenceHasItsCause, EachCountHasItsCause, EachNextHasItsCause, EachWriteHasItsCause, EachReadHasItsCause}
 use Rattle.erst_commands.specs.Theorems.{EachSequenceGoesThrough, EachCountGoesThrough, EachNextGoesThrough, EachWriteGoesThrough, EachReadGoesThrough}
 use Rattle.erst_commands.specs.Attached.{own_client}
@@ -96,12 +97,13 @@ module _ (first : SpaceState) (port : IsPort first.port) where
 -- a change that is answered well was taken
 taken : (first last : MachineState) (id : ℕ) (command : Command) (requests : List Request) (budget : ℕ) (result : Result (Unit {0}) ClientError) (left : ℕ) → result ≡ Ok tt
     → ChangeCommand first last id command requests budget result left → records_of last ≡ after first.device.store.layout command (records_of first)
-taken first last id command requests budget result left is change = (elim change as (λ result left change. result ≡ Ok tt → records_of last ≡ after first.device.store.layout command (records_of first)) [
-  | IsTaken pauses left none made_records made spent ↦ λ e. made_records
-  | IsRefused refusal error left refused same of made spent ↦ λ e. absurd (cc e)
-  | IsFailed pauses left usable rose which leaves checks spent ↦ λ e. absurd (cc e)
-  | IsStopped pauses leaves checks short ↦ λ e. absurd (cc e)
-]) is
+taken first last id command requests budget result left is change =
+    (elim change as (λ result left change. result ≡ Ok tt → records_of last ≡ after first.device.store.layout command (records_of first)) [
+      | IsTaken pauses left none made_records made spent ↦ λ e. made_records
+      | IsRefused refusal error left refused same of made spent ↦ λ e. absurd (cc e)
+      | IsFailed pauses left usable rose which leaves checks spent ↦ λ e. absurd (cc e)
+      | IsStopped pauses leaves checks short ↦ λ e. absurd (cc e)
+    ]) is
 
 module _ (first : SpaceState) (port : IsPort first.port) where
   pub writes_as_the_map : ClientWritesAsTheMap (port_table first.port.addresses) (port_client first) first
@@ -110,10 +112,12 @@ module _ (first : SpaceState) (port : IsPort first.port) where
 
   by_answer : (bytes : List ℕ) (budget : ℕ) (result : Result (Unit {0}) ClientError) (left : ℕ) (last : MachineState) → result ≡ Ok tt → WriteAnswered bytes budget (machine_of first) result left last
       → records_of last ≡ after first.port.device.store.layout (Write (id_of bytes) (marked bytes)) (records first.port.device)
-  by_answer bytes budget result left last is answered = (elim answered as (λ result left last answered. result ≡ Ok tt → records_of last ≡ after first.port.device.store.layout (Write (id_of bytes) (marked bytes)) (records first.port.device)) [
-    | IsNoRecord error refused ↦ λ e. absurd (cc e)
-    | IsWritten result left last none change ↦ λ e. taken _ last (id_of bytes) (Write (id_of bytes) (marked bytes)) _ budget result left e change
-  ]) is
+  by_answer bytes budget result left last is answered =
+      (elim answered as (λ result left last answered. result ≡ Ok tt → records_of last ≡ after first.port.device.store.layout (Write (id_of bytes) (marked bytes))
+      (records first.port.device)) [
+        | IsNoRecord error refused ↦ λ e. absurd (cc e)
+        | IsWritten result left last none change ↦ λ e. taken _ last (id_of bytes) (Write (id_of bytes) (marked bytes)) _ budget result left e change
+      ]) is
 
   pub write_made : (bytes : List ℕ) (run : CallFrom first (Unit {0})) → IsWrite (port_table first.port.addresses) (port_client first) bytes run → MakesRecords (Write (id_of bytes) (marked bytes)) run
   write_made bytes run is ok = by_answer bytes run.budget run.answer run.left (machine_of run.last) ok (writes_as_the_map bytes run is)
@@ -131,19 +135,22 @@ module _ (addresses : Addresses) (first : SpaceState) where
 
   pub read_is_the_maps : IsPort first.port → EachReadIsTheMaps (port_table addresses) first
   read_is_the_maps port id small timings run is =
-      read_command (Unit {0}) own_runs tt (machine_of first) (is_machine first port) id small timings run.budget run.answer run.left (machine_of run.last) (own_sequence addresses first timings (ReadOperation id) run is)
+      read_command (Unit {0}) own_runs tt (machine_of first) (is_machine first port) id small timings run.budget run.answer run.left (machine_of run.last)
+      (own_sequence addresses first timings (ReadOperation id) run is)
 
   pub clear_is_the_maps : EachClearIsTheMaps (port_table addresses) first
   clear_is_the_maps id small run is =
       clear_command (Unit {0}) own_runs tt (machine_of first) id small run.budget run.answer run.left (machine_of run.last)
       (own_sequence addresses first (timings_in (port_table addresses) first) (ClearOperation id) run is)
 
-  pub clear_made : (id : ℕ) → id < 2 ^ 64 → (run : CallFrom first (Unit {0})) → IsSequence (port_table addresses) (timings_in (port_table addresses) first) (ClearOperation id) run → MakesRecords (Clear id) run
+  pub clear_made : (id : ℕ) → id < 2 ^ 64 → (run : CallFrom first (Unit {0})) → IsSequence (port_table addresses) (timings_in (port_table addresses) first)
+      (ClearOperation id) run → MakesRecords (Clear id) run
   clear_made id small run is ok = taken (machine_of first) (machine_of run.last) id (Clear id) _ run.budget run.answer run.left ok (clear_is_the_maps id small run is)
 
   pub dummy_changes_nothing : EachDummyWriteChangesNothing (port_table addresses) first
   dummy_changes_nothing run is =
-      dummy_command (Unit {0}) own_runs (machine_of first) run.budget run.answer run.left (machine_of run.last) (own_sequence addresses first (timings_in (port_table addresses) first) DummyWriteOperation run is)
+      dummy_command (Unit {0}) own_runs (machine_of first) run.budget run.answer run.left (machine_of run.last)
+      (own_sequence addresses first (timings_in (port_table addresses) first) DummyWriteOperation run is)
 
   pub count_is_the_maps : EachCountIsTheMaps (port_table addresses) first
   count_is_the_maps run is = count_command (Unit {0}) own_runs tt run.budget (machine_of first) run.answer run.left (machine_of run.last) (own_count addresses first run is)
@@ -183,7 +190,8 @@ module _ (first : SpaceState) (port : IsPort first.port) where
   write_caused bytes run is = client_write_cause (Unit {0}) own_runs bytes run.budget (machine_of first) run.answer run.left (machine_of run.last) (own_write first port bytes run is)
 
   pub read_caused : (id : ℕ) → id < 2 ^ 64 → EachReadHasItsCause (port_table first.port.addresses) (port_client first) id first
-  read_caused id small out after run is = client_read_cause (Unit {0}) own_runs id out run.budget (machine_of first) run.answer after run.left (machine_of run.last) (own_read first port id small out after run is)
+  read_caused id small out after run is = client_read_cause (Unit {0}) own_runs id out run.budget (machine_of first) run.answer after run.left
+      (machine_of run.last) (own_read first port id small out after run is)
 
 -- Steps
 

@@ -10,7 +10,8 @@ use Rattle.erst_entries.specs.declared.actions.Action.TheVariants.{GetRecordCoun
 use Rattle.erst_interp.proofs.StraightLemmas.{ran_straight}
 use Rattle.erst_client.specs.declared.errors.ClientError.{ClientError}
 use Rattle.erst_client.specs.declared.requests.Request.{Request}
-use Rattle.erst_client.specs.Commands.{write_refusal, Puts, NotPut, NotMarked, IsPut, Writes, IsNoRecord, IsNotPut, IsAsked, CopiesOut, IsFilled, IsNotFilled, Reads, IsNotRead, HasNoLength, IsNotCopied, IsCopied, Counts}
+use Rattle.erst_client.specs.Commands.{write_refusal, Puts, NotPut, NotMarked, IsPut, Writes, IsNoRecord, IsNotPut, IsAsked, CopiesOut, IsFilled, IsNotFilled}
+use Rattle.erst_client.specs.Commands.{Reads, IsNotRead, HasNoLength, IsNotCopied, IsCopied, Counts}
 use Rattle.erst_client.specs.Sequences.{Sequence, write_requests, read_requests, clear_requests, dummy_requests}
 use Rattle.erst_client.proofs.RefusalLemmas.{copies}
 use Rattle.erst_machine.specs.MachineState.{MachineState, reach_in}
@@ -45,11 +46,13 @@ all_carried : (requests : List Request) → AreShared requests → AllCarried Is
 all_carried [] are = tt
 all_carried (request ∷ requests) are = (are.0, all_carried requests are.1)
 
-pub sequence_own : (addresses : Addresses) (timings : Option (ℕ × ℕ)) (requests : List Request) → AreShared requests → (budget : ℕ) (first : SpaceState) (result : Result (Unit {0}) ClientError) (left : ℕ) (last : SpaceState)
+pub sequence_own : (addresses : Addresses) (timings : Option (ℕ × ℕ)) (requests : List Request) → AreShared requests →
+    (budget : ℕ) (first : SpaceState) (result : Result (Unit {0}) ClientError) (left : ℕ) (last : SpaceState)
     → Sequence (Goes addresses) (port_entries addresses.registers) timings requests budget first result left last
     → Sequence (Allows (Unit {0})) own_entries timings requests budget (machine_of first) result left (machine_of last)
 sequence_own addresses timings requests are budget first result left last sequence =
-    sequence_carried (Goes addresses) (Allows (Unit {0})) machine_of (port_entries addresses.registers) own_entries IsShared (are_performed addresses) timings tt tt requests (all_carried requests are) budget first tt result left last sequence
+    sequence_carried (Goes addresses) (Allows (Unit {0})) machine_of (port_entries addresses.registers) own_entries IsShared (are_performed addresses) timings
+    tt tt requests (all_carried requests are) budget first tt result left last sequence
 
 pub write_carried : AreShared write_requests
 write_carried = (tt, (tt, (tt, tt)))
@@ -63,7 +66,8 @@ clear_carried id = (tt, (tt, (tt, tt)))
 pub dummy_carried : AreShared dummy_requests
 dummy_carried = (tt, (tt, (tt, tt)))
 
-pub counts_own : (addresses : Addresses) (budget : ℕ) (first : SpaceState) (result : Result ℕ ClientError) (left : ℕ) (last : SpaceState) → Counts (Goes addresses) (port_entries addresses.registers) budget first result left last
+pub counts_own : (addresses : Addresses) (budget : ℕ) (first : SpaceState) (result : Result ℕ ClientError) (left : ℕ) (last : SpaceState) →
+    Counts (Goes addresses) (port_entries addresses.registers) budget first result left last
     → Counts (Allows (Unit {0})) own_entries budget (machine_of first) result left (machine_of last)
 counts_own addresses budget first result left last counts = record {
   answer = counts.answer;
@@ -89,7 +93,8 @@ module _ (first : SpaceState) (port : IsPort first.port) (bytes : List ℕ) (is 
 
   mark_at : (addresses : Addresses) → first.port.addresses ≡ addresses → (addresses.range + 108) % 2 ^ 64 ≡ addresses.range + 108
   mark_at addresses there =
-      let below : addresses.range + length first.port.range < 2 ^ 64 = subst (λ (a : Addresses). a.range + length first.port.range < 2 ^ 64) there (apart_says (length first.port.range) first.port.addresses port.apart).range in
+      let below : addresses.range + length first.port.range < 2 ^ 64 = subst (λ (a : Addresses). a.range + length first.port.range < 2 ^ 64) there
+      (apart_says (length first.port.range) first.port.addresses port.apart).range in
       omega (arith, below, is.least, is.fits)
 
   mark : (addresses : Addresses) → first.port.addresses ≡ addresses → (mid : SpaceState) → length mid.port.range ≡ length first.port.range → (answer : Result (Unit {0}) SpaceFault) (new : SpaceState)
@@ -139,7 +144,8 @@ read_divides first last id result made = elim made as (λ result made. last.devi
   | IsFailed leaves rose range cursor ↦ leaves.equivalent.layout
 ]
 
-divides : (first last : MachineState) (id budget : ℕ) (result : Result (Unit {0}) ClientError) (left : ℕ) → ReadCommand first last id budget result left → last.device.store.layout ≡ first.device.store.layout
+divides : (first last : MachineState) (id budget : ℕ) (result : Result (Unit {0}) ClientError) (left : ℕ) → ReadCommand first last id budget result left →
+    last.device.store.layout ≡ first.device.store.layout
 divides first last id budget result left command = elim command as (λ result left command. last.device.store.layout ≡ first.device.store.layout) [
   | Answers result left made spent ↦ read_divides first last id result made
   | StopsBehind result made least short ↦ read_divides first last id result made
@@ -151,7 +157,8 @@ module _ (addresses : Addresses) (mid : SpaceState) where
       → Goes addresses mid (ReadBytes ((addresses.range + 20) % 2 ^ 64) (0 ∷ 0 ∷ 0 ∷ 0 ∷ []) field answer) new
       → (answer ≡ Ok tt) × Allows (Unit {0}) (machine_of mid) (ReadBytes 0x100014 (0 ∷ 0 ∷ 0 ∷ 0 ∷ []) field answer) (machine_of new)
   length_own below long field answer new goes =
-      bytes_told addresses mid new ((addresses.range + 20) % 2 ^ 64) 0x100014 20 (omega (arith, below, long)) (0 ∷ 0 ∷ 0 ∷ 0 ∷ []) field answer (omega arith) (omega (arith, long)) (location-length (length mid.port.range) long) goes
+      bytes_told addresses mid new ((addresses.range + 20) % 2 ^ 64) 0x100014 20 (omega (arith, below, long)) (0 ∷ 0 ∷ 0 ∷ 0 ∷ []) field answer (omega arith)
+      (omega (arith, long)) (location-length (length mid.port.range) long) goes
 
   copies_own : (before after : List ℕ) (answer : Result (Unit {0}) ClientError) (new : SpaceState) → 0 < length before → length before ≤ length mid.port.range
       → CopiesOut (Goes addresses) addresses.range before after mid answer new → CopiesOut (Allows (Unit {0})) 0x100000 before after (machine_of mid) answer (machine_of new)
@@ -162,7 +169,8 @@ module _ (addresses : Addresses) (mid : SpaceState) where
     where
       told : (answer : Result (Unit {0}) SpaceFault) (new : SpaceState) → Goes addresses mid (ReadBytes addresses.range before after answer) new
           → (answer ≡ Ok tt) × Allows (Unit {0}) (machine_of mid) (ReadBytes 0x100000 before after answer) (machine_of new)
-      told answer new goes = bytes_told addresses mid new addresses.range 0x100000 0 (omega arith) before after answer some (omega (arith, fits)) (location-start (length mid.port.range) (length before) some fits) goes
+      told answer new goes = bytes_told addresses mid new addresses.range 0x100000 0 (omega arith) before after answer some (omega (arith, fits))
+          (location-start (length mid.port.range) (length before) some fits) goes
 
 pub reads_own : (first : SpaceState) → IsPort first.port → (id : ℕ) → id < 2 ^ 64 → (out : List ℕ) (budget : ℕ) (result : Result ℕ ClientError) (after : List ℕ) (left : ℕ) (last : SpaceState)
     → Reads (Goes first.port.addresses) (port_client first) id out budget first result after left last
@@ -182,17 +190,21 @@ reads_own first port id small out budget result after left last reads =
           (omega (arith, cut, has.within, read.2, length_at.before.range, reach_is left mid sequence)) copying)
     ]
   where
-    own : (result : Result (Unit {0}) ClientError) (left : ℕ) (mid : SpaceState) → Sequence (Goes first.port.addresses) (port_entries first.port.addresses.registers) (own_client (machine_of first)).timings (read_requests id) budget first result left mid
+    own : (result : Result (Unit {0}) ClientError) (left : ℕ) (mid : SpaceState) → Sequence (Goes first.port.addresses)
+        (port_entries first.port.addresses.registers) (own_client (machine_of first)).timings (read_requests id) budget first result left mid
         → Sequence (Allows (Unit {0})) own_entries (own_client (machine_of first)).timings (read_requests id) budget (machine_of first) result left (machine_of mid)
     own result left mid sequence = sequence_own first.port.addresses (own_client (machine_of first)).timings (read_requests id) (read_carried id) budget first result left mid sequence
 
-    same_layout : (left : ℕ) (mid : SpaceState) → Sequence (Goes first.port.addresses) (port_entries first.port.addresses.registers) (own_client (machine_of first)).timings (read_requests id) budget first (Ok tt) left mid
+    same_layout : (left : ℕ) (mid : SpaceState) → Sequence (Goes first.port.addresses) (port_entries first.port.addresses.registers)
+        (own_client (machine_of first)).timings (read_requests id) budget first (Ok tt) left mid
         → mid.port.device.store.layout ≡ first.port.device.store.layout
     same_layout left mid sequence =
         divides (machine_of first) (machine_of mid) id budget (Ok tt) left
-        (read_command (Unit {0}) own_runs tt (machine_of first) (is_machine first port) id small (own_client (machine_of first)).timings budget (Ok tt) left (machine_of mid) (own (Ok tt) left mid sequence))
+        (read_command (Unit {0}) own_runs tt (machine_of first) (is_machine first port) id small (own_client (machine_of first)).timings budget (Ok tt) left
+        (machine_of mid) (own (Ok tt) left mid sequence))
 
-    reach_is : (left : ℕ) (mid : SpaceState) → Sequence (Goes first.port.addresses) (port_entries first.port.addresses.registers) (own_client (machine_of first)).timings (read_requests id) budget first (Ok tt) left mid
+    reach_is : (left : ℕ) (mid : SpaceState) → Sequence (Goes first.port.addresses) (port_entries first.port.addresses.registers)
+        (own_client (machine_of first)).timings (read_requests id) budget first (Ok tt) left mid
         → reach_in mid.port.device ≡ reach_in first.port.device
     reach_is left mid sequence = ap (λ (l : Layout). reach_of (room_of l)) (same_layout left mid sequence)
 

@@ -73,7 +73,8 @@ pub loss_found : (origin : ℕ) (geometry : Geometry) (first : Embedded) (calls 
 loss_found origin geometry first calls last next begins is lost again =
     subst (λ (m : Stored). ShowsPrefix first calls m) (sym (found_are origin geometry next again)) (loss_shows origin geometry first calls last next.medium begins is lost)
 
-pub loss_first : (origin : ℕ) (geometry : Geometry) (first : Embedded) (calls : Calls) (last next : Embedded) → Begins origin geometry first → Trail Happens first calls last → CountsNoFault first calls
+pub loss_first : (origin : ℕ) (geometry : Geometry) (first : Embedded) (calls : Calls) (last next : Embedded) → Begins origin geometry first →
+    Trail Happens first calls last → CountsNoFault first calls
     → IsLeft last next.medium → Begins origin geometry next → ShowsFirst first calls (records_of next.port)
 loss_first origin geometry first calls last next begins is no_fault lost again =
     shows_first first calls (records_of next.port) (is_history first calls last is) no_fault (loss_found origin geometry first calls last next begins is lost again)

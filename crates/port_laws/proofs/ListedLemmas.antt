@@ -42,19 +42,23 @@ record IsTold (stored : Stored) (first last : MachineState) (told : Option ℕ) 
   tells : Tells (told_of stored) first.device.cursor (Ok told) last.device.cursor
   same : records_of last ≡ stored
 
-told_by : (stored : Stored) (first last : MachineState) (told : Option ℕ) (result : Result (Option ℕ) ClientError) → records_of first ≡ stored → result ≡ Ok told → NextRound first last result → IsTold stored first last told
+told_by : (stored : Stored) (first last : MachineState) (told : Option ℕ) (result : Result (Option ℕ) ClientError) → records_of first ≡ stored →
+    result ≡ Ok told → NextRound first last result → IsTold stored first last told
 told_by stored first last told result at_first is round = (elim round as (λ (result : Result (Option ℕ) ClientError) round. result ≡ Ok told → IsTold stored first last told) [
   | IsAbove id asked least cursor ↦ λ e. let same : Some id ≡ told = cc e in subst (IsTold stored first last) same (record {
-    tells = subst (λ (n : ℕ). Tells (told_of stored) first.device.cursor (Ok (Some id)) n) (sym cursor) (TellsNext id (next_behind stored first.device.cursor id (subst (λ (map : Stored). IsNextAbove first.device.cursor map (Some id)) at_first least)));
+    tells = subst (λ (n : ℕ). Tells (told_of stored) first.device.cursor (Ok (Some id)) n) (sym cursor)
+        (TellsNext id (next_behind stored first.device.cursor id (subst (λ (map : Stored). IsNextAbove first.device.cursor map (Some id)) at_first least)));
     same = kept first last asked ∙ at_first;
   })
   | IsFirst id asked none least cursor ↦ λ e. let same : Some id ≡ told = cc e in subst (IsTold stored first last) same (record {
     tells = subst (λ (n : ℕ). Tells (told_of stored) first.device.cursor (Ok (Some id)) n) (sym cursor)
-        (GoesRound id (none_behind stored first.device.cursor (subst (λ (map : Stored). IsNextAbove first.device.cursor map None) at_first none)) (next_behind stored 0 id (subst (λ (map : Stored). IsNextAbove 0 map (Some id)) at_first least)));
+        (GoesRound id (none_behind stored first.device.cursor (subst (λ (map : Stored). IsNextAbove first.device.cursor map None) at_first none))
+        (next_behind stored 0 id (subst (λ (map : Stored). IsNextAbove 0 map (Some id)) at_first least)));
     same = kept first last asked ∙ at_first;
   })
   | IsNone asked none empty cursor ↦ λ e. let same : None ≡ told = cc e in subst (IsTold stored first last) same (record {
-    tells = subst (λ (n : ℕ). Tells (told_of stored) first.device.cursor (Ok None) n) (sym cursor) (TellsAllOnes (none_behind stored first.device.cursor (subst (λ (map : Stored). IsNextAbove first.device.cursor map None) at_first none)));
+    tells = subst (λ (n : ℕ). Tells (told_of stored) first.device.cursor (Ok None) n) (sym cursor)
+        (TellsAllOnes (none_behind stored first.device.cursor (subst (λ (map : Stored). IsNextAbove first.device.cursor map None) at_first none)));
     same = kept first last asked ∙ at_first;
   })
   | IsNotFound failed ↦ λ e. absurd (cc e)
@@ -64,7 +68,8 @@ module _ (addresses : Addresses) (steps : ℕ) where
   abbrev Asks : SpaceState → Result (Option ℕ) ClientError → SpaceState → Type 0
   Asks first answer last = questions (Goes addresses) (port_table addresses).entries steps first answer last
 
-  was_told : (stored : Stored) (first : SpaceState) (told : Option ℕ) (last : SpaceState) → records first.port.device ≡ stored → Asks first (Ok told) last → IsTold stored (machine_of first) (machine_of last) told
+  was_told : (stored : Stored) (first : SpaceState) (told : Option ℕ) (last : SpaceState) → records first.port.device ≡ stored → Asks first (Ok told) last →
+      IsTold stored (machine_of first) (machine_of last) told
   was_told stored first told last at_first asks =
       let run : CallFrom first (Option ℕ) = record { budget = steps; answer = Ok told; left = asks.0; last = last } in
       told_by stored (machine_of first) (machine_of last) told (Ok told) at_first refl (round_of addresses first told run asks.1 refl)
@@ -73,7 +78,8 @@ module _ (addresses : Addresses) (steps : ℕ) where
     gathers : Gathers (Tells (told_of stored)) room first.port.device.cursor ids ended_once last.port.device.cursor
     same : records last.port.device ≡ stored
 
-  gathered : (room : ℕ) (first : SpaceState) (ids : List ℕ) (ended_once : Bool) (last : SpaceState) → Gathers Asks room first ids ended_once last → IsGathered (records first.port.device) room first ids ended_once last
+  gathered : (room : ℕ) (first : SpaceState) (ids : List ℕ) (ended_once : Bool) (last : SpaceState) → Gathers Asks room first ids ended_once last →
+      IsGathered (records first.port.device) room first ids ended_once last
   gathered room first ids ended_once last NoneAsked = record { gathers = NoneAsked; same = refl }
   gathered room first ids ended_once last (OneAsked before was mid answer more ends after gathers asks on) =
       let so = gathered room first before was mid gathers in
@@ -82,11 +88,20 @@ module _ (addresses : Addresses) (steps : ℕ) where
 
   module _ (room : ℕ) (first : SpaceState) (ids : List ℕ) (last : SpaceState) where
     -- one that ended by an answer
-    by_answer : (ended_once : Bool) (mid : SpaceState) (told : Option ℕ) (result : Result (Unit {0}) ListError) → Gathers Asks room first ids ended_once mid → Asks mid (Ok told) last → Ends room ids ended_once (Ok told) result →
+    by_answer : (ended_once : Bool) (mid : SpaceState) (told : Option ℕ) (result : Result (Unit {0}) ListError) → Gathers Asks room first ids ended_once mid →
+        Asks mid (Ok told) last → Ends room ids ended_once (Ok told) result →
         Lists (Tells (told_of (records first.port.device))) room first.port.device.cursor result ids last.port.device.cursor
     by_answer ended_once mid told result gathers asks ends =
         let so = gathered room first ids ended_once mid gathers in
-        record { ended_once = ended_once; mid = mid.port.device.cursor; answer = Ok told; gathers = so.gathers; asked = (was_told (records first.port.device) mid told last so.same asks).tells; ends = ends }
+        record {
+          ended_once = ended_once;
+          mid = mid.port.device.cursor;
+          answer = Ok told;
+          gathers = so.gathers;
+          asked =
+              (was_told (records first.port.device) mid told last so.same asks).tells;
+          ends = ends;
+        }
 
     pub listed_all : ListsPort addresses steps room first (Ok tt) ids last → Lists (Tells (told_of (records first.port.device))) room first.port.device.cursor (Ok tt) ids last.port.device.cursor
     listed_all lists = (elim lists.ends as (λ (answer : Result (Option ℕ) ClientError) (result : Result (Unit {0}) ListError) ends. result ≡ Ok tt → Asks lists.mid answer last →
@@ -97,7 +112,8 @@ module _ (addresses : Addresses) (steps : ℕ) where
           | IsRefused error ↦ λ e asks. absurd (cc e)
         ]) refl lists.asked
 
-    pub listed_full : ListsPort addresses steps room first (Err Full) ids last → Lists (Tells (told_of (records first.port.device))) room first.port.device.cursor (Err Full) ids last.port.device.cursor
+    pub listed_full : ListsPort addresses steps room first (Err Full) ids last → Lists (Tells (told_of (records first.port.device))) room
+        first.port.device.cursor (Err Full) ids last.port.device.cursor
     listed_full lists = (elim lists.ends as (λ (answer : Result (Option ℕ) ClientError) (result : Result (Unit {0}) ListError) ends. result ≡ Err Full → Asks lists.mid answer last →
         Lists (Tells (told_of (records first.port.device))) room first.port.device.cursor result ids last.port.device.cursor) [
           | ComesAgain id has ↦ λ e asks. absurd (cc e)

@@ -81,7 +81,8 @@ above_of stored from id up next = (elim next as (λ id next. from < id → IsNex
 ]) up
 
 -- while they rise, none is left out
-all_risen : (stored : Stored) (from : ℕ) (ids : List ℕ) → Walks stored from ids → Rising from ids → IsNextAbove (end_of from ids) stored None → (id : ℕ) → from < id → IsSome (get stored id) → Contains ids id
+all_risen : (stored : Stored) (from : ℕ) (ids : List ℕ) → Walks stored from ids → Rising from ids → IsNextAbove (end_of from ids) stored None → (id : ℕ) →
+    from < id → IsSome (get stored id) → Contains ids id
 all_risen stored from [] walks rising none id above some = absurd (nothing (get stored id) some (none id above))
 all_risen stored from (next ∷ ids) walks rising none id above some =
     let least = above_of stored from next rising.0 walks.0 in
@@ -196,7 +197,8 @@ has_or_not (id ∷ ids) other = elim (cases_eq id other) [
 ]
 
 -- a walk that meets an identifier again has met each that is stored
-all_met : (stored : Stored) (from : ℕ) (ids : List ℕ) (again : ℕ) → Walks stored from ids → Contains ids again → Behind stored (end_of from ids) again → (other : ℕ) → 0 < other → IsSome (get stored other) → Contains ids other
+all_met : (stored : Stored) (from : ℕ) (ids : List ℕ) (again : ℕ) → Walks stored from ids → Contains ids again → Behind stored (end_of from ids) again →
+    (other : ℕ) → 0 < other → IsSome (get stored other) → Contains ids other
 all_met stored from ids again walks has next other some here = elim (has_or_not ids other) [
   | inl is ↦ is
   | inr misses ↦
@@ -242,7 +244,8 @@ last_by first last result not round = (elim round as (λ result round. IsNotGrea
 ]) not
 
 -- what was answered is what the action made
-made_of : {T : Type 0} (Made : Result T ClientError → Type 0) (budget : ℕ) (first last : MachineState) (value : T) (result : Result T ClientError) (left : ℕ) → result ≡ Ok value → AsksOnce Made budget first last result left → Made result
+made_of : {T : Type 0} (Made : Result T ClientError → Type 0) (budget : ℕ) (first last : MachineState) (value : T) (result : Result T ClientError) (left : ℕ) →
+    result ≡ Ok value → AsksOnce Made budget first last result left → Made result
 made_of {T = T} Made budget first last value result left is asks = (elim asks as (λ result left asks. result ≡ Ok value → Made result) [
   | Answers result left made spent ↦ λ e. made
   | StopsBehind result made one ↦ λ e. absurd (cc e)
@@ -260,9 +263,11 @@ not_zero store id some = by_kept (get (stored store) id) refl some
         grind (arith, allowed)
 
 module _ (addresses : Addresses) where
-  pub round_of : (first : SpaceState) (told : Option ℕ) (run : CallFrom first (Option ℕ)) → IsNextCall (port_table addresses) run → run.answer ≡ Ok told → NextRound (machine_of first) (machine_of run.last) run.answer
+  pub round_of : (first : SpaceState) (told : Option ℕ) (run : CallFrom first (Option ℕ)) → IsNextCall (port_table addresses) run → run.answer ≡ Ok told →
+      NextRound (machine_of first) (machine_of run.last) run.answer
   round_of first told run asks is =
-      made_of (NextRound (machine_of first) (machine_of run.last)) run.budget (machine_of first) (machine_of run.last) told run.answer run.left is (next_round addresses run.budget first run.answer run.left run.last asks)
+      made_of (NextRound (machine_of first) (machine_of run.last)) run.budget (machine_of first) (machine_of run.last) told run.answer run.left is
+      (next_round addresses run.budget first run.answer run.left run.last asks)
 
   is_next : (first : SpaceState) (id : ℕ) (run : CallFrom first (Option ℕ)) → IsNextCall (port_table addresses) run → run.answer ≡ Ok (Some id) → IsNext (machine_of first) (machine_of run.last) id
   is_next first id run asks is = next_by (machine_of first) (machine_of run.last) id run.answer is (round_of first (Some id) run asks is)
@@ -302,7 +307,8 @@ module _ (addresses : Addresses) where
       let last = listing.last in
       let walk = is_walk first ids last listing.lists in
       let is = is_last last listing.next listing.asks not in
-      let none = subst (λ (map : Stored). IsNextAbove (end_of first.port.device.cursor ids) map None) walk.same (subst (λ (n : ℕ). IsNextAbove n (records last.port.device) None) (sym walk.ends) is.none) in (
+      let none = subst (λ (map : Stored). IsNextAbove (end_of first.port.device.cursor ids) map None) walk.same
+      (subst (λ (n : ℕ). IsNextAbove n (records last.port.device) None) (sym walk.ends) is.none) in (
         record {
           are_stored = all_stored (records first.port.device) first.port.device.cursor ids walk.walks;
           all = all_risen (records first.port.device) first.port.device.cursor ids walk.walks rising none;

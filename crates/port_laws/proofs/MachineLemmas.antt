@@ -34,7 +34,8 @@ ends_set =
     let read : ack_read own_map (with_address own_map blank) ≡ 0 = ack-with_address own_map blank own_windows ∙ nothing_read in
     let small : ack_read own_map (with_address own_map blank) < 2 ^ bits own_map.ack.access = subst (λ (n : ℕ). n < 2 ^ 64) (sym read) (lit< tt) in
     let set = set_bits own_map (with_address own_map blank) (HasWindows-with_address own_map blank own_windows) small own_bits in
-    let same = started_memory own_map blank (with_address own_map blank) with_start (with_window own_map with_start (with_status (window own_map with_start) (spelled 4 0))) own_windows refl refl refl in
+    let same = started_memory own_map blank (with_address own_map blank) with_start
+    (with_window own_map with_start (with_status (window own_map with_start) (spelled 4 0))) own_windows refl refl refl in
     subst (IsSet own_map) same
     (started_set own_map blank (with_address own_map blank) with_start (with_window own_map with_start (with_status (window own_map with_start) (spelled 4 0))) own_windows refl refl refl set)
 

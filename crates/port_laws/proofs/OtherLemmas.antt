@@ -31,7 +31,8 @@ action_beside : (old : PortState) (code : ℕ) (answer : Result (Unit {0}) PortE
 action_beside old code answer new (inl due) = same_beside old new due.2
 action_beside old code answer new (inr taken) = beside_of old new new.device new.range old.made taken.2.others
 
-number_beside : (location : Location) (old : PortState) (width : Width) (value : ℕ) (answer : Result (Unit {0}) PortError) (new : PortState) → NumberWritten location old width value answer new → IsBeside old new
+number_beside : (location : Location) (old : PortState) (width : Width) (value : ℕ) (answer : Result (Unit {0}) PortError) (new : PortState) →
+    NumberWritten location old width value answer new → IsBeside old new
 number_beside Action old width value answer new wrote = action_beside old (value % 2 ^ 32) answer new wrote
 number_beside Value old width value answer new wrote = beside_of old new _ _ _ wrote.1
 number_beside LowHalf old width value answer new wrote = beside_of old new _ _ _ wrote.1
@@ -39,7 +40,8 @@ number_beside HighHalf old width value answer new wrote = beside_of old new _ _ 
 number_beside (Bytes start) old width value answer new wrote = beside_of old new _ _ _ wrote.1
 number_beside Nowhere old width value answer new wrote = same_beside old new wrote.1
 
-written_beside : (place : Option (Window × ℕ)) (old : PortState) (at : ℕ) (width : Width) (value : ℕ) (answer : Result (Unit {0}) SpaceFault) (new : PortState) → WrittenAt place old at width value answer new → IsBeside old new
+written_beside : (place : Option (Window × ℕ)) (old : PortState) (at : ℕ) (width : Width) (value : ℕ) (answer : Result (Unit {0}) SpaceFault) (new : PortState)
+    → WrittenAt place old at width value answer new → IsBeside old new
 written_beside None old at width value answer new wrote = same_beside old new wrote.1
 written_beside (Some place) old at width value answer new wrote = number_beside _ old width value wrote.0 new wrote.2
 

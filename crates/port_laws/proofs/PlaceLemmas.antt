@@ -16,7 +16,8 @@ abbrev either : Bool → (first second : Option (Window × ℕ)) → Option (Win
 either held first second = if held then first else second
 
 -- a window holds the bytes behind its begin
-held_in : (base size k : ℕ) (held : Bool) → holds base size (base + k) ≡ held → k < size → (window : Window) (rest : Option (Window × ℕ)) → either held (Some (window, base + k - base)) rest ≡ Some (window, k)
+held_in : (base size k : ℕ) (held : Bool) → holds base size (base + k) ≡ held → k < size → (window : Window) (rest : Option (Window × ℕ)) →
+    either held (Some (window, base + k - base)) rest ≡ Some (window, k)
 held_in base size k true is below window rest = ap (λ (n : ℕ). Some (window, n)) (omega arith)
 held_in base size k false is below window rest = grind (arith, nat_tests)
 

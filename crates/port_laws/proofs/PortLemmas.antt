@@ -23,7 +23,8 @@ use Rattle.erst_port.specs.declared.windows.Addresses.{Addresses}
 use Rattle.erst_port.specs.declared.windows.Location.{Location}
 use Rattle.erst_port.specs.declared.windows.Location.TheVariants.{Action, Value, LowHalf, HighHalf, Bytes, Nowhere}
 use Rattle.erst_port.specs.PortState.{PortState, IsMade}
-use Rattle.erst_port.specs.Accesses.{number_read, Tells, Address, Round, Number, Acted, ActsOn, ActionWritten, NumberWritten, with_value, with_bytes, bytes_read, bytes_stored, ResetsOn, reset_answer, Resets}
+use Rattle.erst_port.specs.Accesses.{number_read, Tells, Address, Round, Number, Acted, ActsOn, ActionWritten, NumberWritten, with_value, with_bytes}
+use Rattle.erst_port.specs.Accesses.{bytes_read, bytes_stored, ResetsOn, reset_answer, Resets}
 use Rattle.erst_port.specs.Saved.{signature, head_size, saved_head, IsSaved}
 use Rattle.erst_port.specs.Loaded.{AreOfDevice, AreOfLayout, GoesOn}
 use Rattle.erst_port.proofs.SavedLemmas.{length-saved_head, HasNumbers, has_numbers}
@@ -43,7 +44,8 @@ pub is_taken : (port : PortState) (saved : List ℕ) → IsSaved port saved
 is_taken port saved is =
     let layout = port.device.store.layout in
     let head : List ℕ = saved_head layout port.addresses port.device in
-    let numbers : HasNumbers layout port.addresses port.device saved = subst (HasNumbers layout port.addresses port.device) (sym is.form) (has_numbers layout port.addresses port.device port.range is.small) in
+    let numbers : HasNumbers layout port.addresses port.device saved = subst (HasNumbers layout port.addresses port.device) (sym is.form)
+    (has_numbers layout port.addresses port.device port.range is.small) in
     let start = head_is layout port.addresses port.device port.range in
     let size : length saved ≡ head_size + length port.range =
     ap (λ (xs : List ℕ). length xs) is.form ∙ length-append head port.range ∙ ap (λ (n : ℕ). n + length port.range) (length-saved_head layout port.addresses port.device) in (
@@ -64,9 +66,38 @@ goes_on_alike old new saved is on =
     let pending : unplaced new.device.store.pending ≡ unplaced old.device.store.pending = ap unplaced on.ready.idle ∙ sym (ap unplaced is.still.no_change) in
     let outlines : bare (device_outline new.device) ≡ bare (device_outline old.device) =
     ap (λ (d : DeviceState). bare (device_outline d)) device
-    ∙ ap (λ (l : Layout). record (bare (device_outline old.device)) { store = record { layout = l; records = stored new.device.store; steps = 0; in_doubt = false; pending = unplaced new.device.store.pending; copies = 0 } }) on.layout
-    ∙ ap (λ (map : Stored). record (bare (device_outline old.device)) { store = record { layout = old.device.store.layout; records = map; steps = 0; in_doubt = false; pending = unplaced new.device.store.pending; copies = 0 } }) on.records_are
-    ∙ ap (λ (p : Pending). record (bare (device_outline old.device)) { store = record { layout = old.device.store.layout; records = stored old.device.store; steps = 0; in_doubt = false; pending = p; copies = 0 } }) pending in
+    ∙ ap (λ (l : Layout). record (bare (device_outline old.device)) {
+      store = record {
+        layout = l;
+        records = stored new.device.store;
+        steps = 0;
+        in_doubt =
+            false;
+        pending = unplaced new.device.store.pending;
+        copies = 0;
+      };
+    }) on.layout
+    ∙ ap (λ (map : Stored). record (bare (device_outline old.device)) {
+      store = record {
+        layout = old.device.store.layout;
+        records = map;
+        steps = 0;
+        in_doubt =
+            false;
+        pending = unplaced new.device.store.pending;
+        copies = 0;
+      };
+    }) on.records_are
+    ∙ ap (λ (p : Pending). record (bare (device_outline old.device)) {
+      store = record {
+        layout = old.device.store.layout;
+        records = stored old.device.store;
+        steps = 0;
+        in_doubt = false;
+        pending = p;
+        copies = 0;
+      };
+    }) pending in
     record {
       device = sym outlines;
       range = sym (ap (λ (p : PortState). p.range) on.port);
@@ -159,7 +190,8 @@ told_round address code left new store (Ok None) is all look new_is first same s
 told_round address code left new store (Err error) is all look new_is first same some = absurd (some (ap (λ (d : DeviceState). d.value) new_is))
 
 rounded : (old : DeviceState) (range : List ℕ) (address code : ℕ) (left : DeviceState) (after : List ℕ) (new : DeviceState) → Acts (Unit {0}) old range (action_of code) left after
-    → code ≡ code_of GetRecordIdentifier → left.value ≡ 2 ^ 64 - 1 → Acts (Unit {0}) left after (Some GetRecordIdentifier) new after → FailsNothing old.store new.store → Split old range address code new after
+    → code ≡ code_of GetRecordIdentifier → left.value ≡ 2 ^ 64 - 1 → Acts (Unit {0}) left after (Some GetRecordIdentifier) new after →
+    FailsNothing old.store new.store → Split old range address code new after
 rounded old range address code left after new acts is all again quiet =
     let ends : IsBehind old left = behind old range left after (looked_by old range (action_of code) left after (ap action_of is) acts) all in
     let repeats : Looked left after new after = looked_by left after (Some GetRecordIdentifier) new after refl again in
@@ -182,7 +214,8 @@ split old range address code left after new acts told = elim told as (λ new tol
 other_code : (code : ℕ) → code ≡ code_of GetErrorLogAddressRange → code ≡ code_of GetRecordIdentifier → ⊥
 other_code code is also = omega (arith, is, also)
 
-told_alike : (address code : ℕ) (one other one_new other_new : DeviceOutline) → bare one ≡ bare other → ToldBy address code one one_new → ToldBy address code other other_new → bare one_new ≡ bare other_new
+told_alike : (address code : ℕ) (one other one_new other_new : DeviceOutline) → bare one ≡ bare other → ToldBy address code one one_new →
+    ToldBy address code other other_new → bare one_new ≡ bare other_new
 told_alike address code one other one_new other_new equivalent first later =
     let value : one.value ≡ other.value = ap (λ (o : DeviceOutline). o.value) equivalent in
     elim first as (λ one_new first. bare one_new ≡ bare other_new) [
@@ -226,7 +259,8 @@ acts_on_alike one other code one_after other_after equivalent first quiet later 
     let here : Acted other.device one.range one.addresses.range code other_after.device other_after.range =
     subst (λ (range : List ℕ). Acted other.device range one.addresses.range code other_after.device other_after.range) (sym equivalent.range)
     (subst (λ (places : Addresses). Acted other.device other.range places.range code other_after.device other_after.range) (sym equivalent.addresses) later.acted) in
-    let both = acted_alike one.device other.device one.range one.addresses.range code one_after.device one_after.range other_after.device other_after.range equivalent.device first.acted quiet here also_quiet in
+    let both = acted_alike one.device other.device one.range one.addresses.range code one_after.device one_after.range other_after.device other_after.range
+    equivalent.device first.acted quiet here also_quiet in
     record {
       device = both.0;
       range = both.1;
@@ -245,12 +279,14 @@ action_alike one other code answer also one_after other_after equivalent made al
     (first.0 ∙ sym later.0, acts_on_alike one other code one_after other_after equivalent first.2 quiet later.2 also_quiet)
 
 -- one that leaves a port as an equation says
-by_equations : (one other one_is other_is one_after other_after : PortState) (answer also done : Result (Unit {0}) PortError) → answer ≡ done → also ≡ done → one_after ≡ one_is → other_after ≡ other_is
+by_equations : (one other one_is other_is one_after other_after : PortState) (answer also done : Result (Unit {0}) PortError) → answer ≡ done → also ≡ done →
+    one_after ≡ one_is → other_after ≡ other_is
     → EquivalentPorts one_is other_is → (answer ≡ also) × EquivalentPorts one_after other_after
 by_equations one other one_is other_is one_after other_after answer also done is also_is first later equivalent =
     (is ∙ sym also_is, subst (λ (p : PortState). EquivalentPorts p other_after) (sym first) (subst (EquivalentPorts one_is) (sym later) equivalent))
 
-pub writes_alike : (one other : PortState) (location : Location) (width : Width) (value : ℕ) (answer also : Result (Unit {0}) PortError) (one_after other_after : PortState) → EquivalentPorts one other → IsMade one → IsMade other
+pub writes_alike : (one other : PortState) (location : Location) (width : Width) (value : ℕ) (answer also : Result (Unit {0}) PortError)
+    (one_after other_after : PortState) → EquivalentPorts one other → IsMade one → IsMade other
     → NumberWritten location one width value answer one_after → FailedNothing one one_after → NumberWritten location other width value also other_after → FailedNothing other other_after
     → (answer ≡ also) × EquivalentPorts one_after other_after
 writes_alike one other Action width value answer also one_after other_after equivalent made also_made first quiet later also_quiet =
@@ -287,7 +323,8 @@ record Restarted (old new : PortState) (answer : Result (Unit {0}) PortError) : 
   is_done : answer ≡ Ok tt
   device : bare (device_outline new.device) ≡ restarted (bare (device_outline old.device))
 
-restarts : (old new : PortState) (answer : Result (Unit {0}) PortError) (result : Result (Unit {0}) StoreError) → answer ≡ reset_answer result → ResetsOn old result new → FailedNothing old new → Restarted old new answer
+restarts : (old new : PortState) (answer : Result (Unit {0}) PortError) (result : Result (Unit {0}) StoreError) → answer ≡ reset_answer result →
+    ResetsOn old result new → FailedNothing old new → Restarted old new answer
 restarts old new answer (Ok done) is on quiet = record {
   is_done = is;
   device =

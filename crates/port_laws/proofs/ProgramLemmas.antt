@@ -5,7 +5,9 @@ use Rattle.apei_tables.specs.declared.registers.Place.TheVariants.{Memory}
 use Rattle.apei_tables.specs.declared.widths.Width.TheVariants.{B32, B64}
 use Rattle.apei_tables.specs.Fields.{stored}
 use Rattle.erst_entries.specs.declared.actions.Action.{Action}
-use Rattle.erst_entries.specs.declared.actions.Action.TheVariants.{SetRecordOffset, CheckBusyStatus, GetCommandStatus, GetRecordIdentifier, SetRecordIdentifier, GetRecordCount, GetErrorLogAddressRange, GetErrorLogAddressRangeLength, GetErrorLogAddressRangeAttributes, GetExecuteOperationTimings}
+use Rattle.erst_entries.specs.declared.actions.Action.TheVariants.{SetRecordOffset, CheckBusyStatus, GetCommandStatus, GetRecordIdentifier, SetRecordIdentifier}
+use Rattle.erst_entries.specs.declared.actions.Action.TheVariants.{GetRecordCount, GetErrorLogAddressRange, GetErrorLogAddressRangeLength}
+use Rattle.erst_entries.specs.declared.actions.Action.TheVariants.{GetErrorLogAddressRangeAttributes, GetExecuteOperationTimings}
 use Rattle.erst_entries.specs.declared.entries.Entry.{Entry}
 use Rattle.erst_entries.specs.declared.instructions.Instruction.TheVariants.{ReadRegister, ReadRegisterValue, WriteRegister, WriteRegisterValue}
 use Rattle.erst_entries.specs.Actions.{code_of}
@@ -48,7 +50,8 @@ module _ (addresses : Addresses) where
   writes : (number : ℕ) → WritesCarried (Goes addresses) (Allows (Unit {0})) machine_of (Memory (addresses.registers + 8)) (Memory 0x200008) B64 number
   writes number = record { carried = λ old new answer h. value_written addresses old new number answer h; served = λ old new fault h. value_write_served addresses old new number fault h }
 
-  codes_written : (number code : ℕ) → number % 2 ^ 32 ≡ code → (code ≡ 0xD → ⊥) → (code ≡ 0x8 → ⊥) → WritesCarried (Goes addresses) (Allows (Unit {0})) machine_of (Memory addresses.registers) (Memory 0x200000) B32 number
+  codes_written : (number code : ℕ) → number % 2 ^ 32 ≡ code → (code ≡ 0xD → ⊥) → (code ≡ 0x8 → ⊥) → WritesCarried (Goes addresses) (Allows (Unit {0}))
+      machine_of (Memory addresses.registers) (Memory 0x200000) B32 number
   codes_written number code is not_address not_next = record {
     carried = λ old new answer h. action_written addresses old new number code answer is not_address not_next h;
     served = λ old new fault h. action_served addresses old new number fault h;
@@ -59,7 +62,8 @@ module _ (addresses : Addresses) where
       let written = codes_written (stored (code_of action) 0 (2 ^ 32 - 1)) (code_of action) (code_kept action) (not_address action is) (not_next action is) in
       record {
         step = λ given len at d more old new step. store_step (Goes addresses) (Allows (Unit {0})) machine_of (Memory addresses.registers) (Memory 0x200000) B32
-            (record { entry = carries_out addresses.registers action; given = given; len = len; at = at }) action_register WriteRegisterValue (code_of action) written refl refl refl refl refl refl d more old new step;
+            (record { entry = carries_out addresses.registers action; given = given; len = len; at = at }) action_register WriteRegisterValue (code_of action)
+            written refl refl refl refl refl refl d more old new step;
         halts = λ given len at paid old stop left new halt. store_halts (Goes addresses) (Allows (Unit {0})) machine_of (Memory addresses.registers) (Memory 0x200000) B32
             (record { entry = carries_out addresses.registers action; given = given; len = len; at = at }) WriteRegisterValue (code_of action) written refl refl refl refl paid old stop left new halt;
       }
@@ -78,7 +82,8 @@ module _ (addresses : Addresses) where
         (record { entry = asks_for_one addresses.registers action; given = given; len = len; at = at }) value_register ReadRegisterValue
         (λ x. record (next at) { result = Some (if x == 1 then 1 else 0) }) refl refl refl refl refl d more old new step;
     halts = λ given len at paid old stop left new halt. take_halts (Goes addresses) (Allows (Unit {0})) machine_of (Memory (addresses.registers + 8)) (Memory 0x200008) B64 reads
-        (record { entry = asks_for_one addresses.registers action; given = given; len = len; at = at }) ReadRegisterValue (λ x. record (next at) { result = Some (if x == 1 then 1 else 0) }) refl refl refl paid old stop left new halt;
+        (record { entry = asks_for_one addresses.registers action; given = given; len = len; at = at }) ReadRegisterValue
+        (λ x. record (next at) { result = Some (if x == 1 then 1 else 0) }) refl refl refl paid old stop left new halt;
   }
 
   answer_own : (action : Action) (mask : ℕ) → IsOwn addresses (takes addresses.registers action mask) (answer action mask)
@@ -87,7 +92,8 @@ module _ (addresses : Addresses) where
         (record { entry = takes addresses.registers action mask; given = given; len = len; at = at }) value_register ReadRegister
         (λ x. record (next at) { result = Some x }) refl refl refl refl refl d more old new step;
     halts = λ given len at paid old stop left new halt. take_halts (Goes addresses) (Allows (Unit {0})) machine_of (Memory (addresses.registers + 8)) (Memory 0x200008) B64 reads
-        (record { entry = takes addresses.registers action mask; given = given; len = len; at = at }) ReadRegister (λ x. record (next at) { result = Some x }) refl refl refl paid old stop left new halt;
+        (record { entry = takes addresses.registers action mask; given = given; len = len; at = at }) ReadRegister (λ x. record (next at) { result = Some x })
+        refl refl refl paid old stop left new halt;
   }
 
   alone : (action : Action) → IsShared action → AreCarried (Goes addresses) (Allows (Unit {0})) machine_of (carries_out addresses.registers action ∷ []) (act action ∷ [])

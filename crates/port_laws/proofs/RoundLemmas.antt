@@ -68,7 +68,8 @@ module _ (first last : MachineState) (elsewhere : last ≡ record first { device
       (IsNotFound (has_failed {T = Option ℕ} (Unit {0}) tt first last store error look.leaves look.error there elsewhere (ap (λ (d : DeviceState). d.cursor) is)))
 
   -- none above the cursor: the first look left the store as it is, with these records, and the second one began at 0
-  by_second : HasAsked first last → IsNextAbove first.device.cursor (records_of first) None → (left : DeviceState) (store : StoreView) (result : Result (Option ℕ) StoreError) → records left ≡ records_of first → left.cursor ≡ 0
+  by_second : HasAsked first last → IsNextAbove first.device.cursor (records_of first) None → (left : DeviceState) (store : StoreView)
+      (result : Result (Option ℕ) StoreError) → records left ≡ records_of first → left.cursor ≡ 0
       → FoundNext (Unit {0}) (given_up left).store store left.cursor result → IsAllowed result → last.device ≡ found result store (given_up left) → last.device.value ≢ 0
       → NextRound first last (named (Ok (last.device.value % 2 ^ 64)))
   by_second asked none left store (Ok (Some id)) same start look allowed is some =
@@ -83,12 +84,14 @@ module _ (first last : MachineState) (elsewhere : last ≡ record first { device
   by_second asked none left store (Err error) same start look allowed is some = absurd (some (ap (λ (d : DeviceState). d.value) is))
 
 -- the store of a first look that found nothing
-asked_first : (first last : MachineState) → last ≡ record first { device = last.device } → (left : DeviceState) (range after : List ℕ) → (looks : Looked first.device range left after) → left.value ≡ 2 ^ 64 - 1
+asked_first : (first last : MachineState) → last ≡ record first { device = last.device } → (left : DeviceState) (range after : List ℕ) →
+    (looks : Looked first.device range left after) → left.value ≡ 2 ^ 64 - 1
     → last.device.store ≡ left.store → HasAsked first last × (records left ≡ records_of first)
 asked_first first last elsewhere left range after looks all same =
     by_result looks.result looks.look looks.allowed looks.new_is
   where
-    by_result : (result : Result (Option ℕ) StoreError) → FoundNext (Unit {0}) (given_up first.device).store looks.store first.device.cursor result → IsAllowed result → left ≡ found result looks.store (given_up first.device)
+    by_result : (result : Result (Option ℕ) StoreError) → FoundNext (Unit {0}) (given_up first.device).store looks.store first.device.cursor result →
+        IsAllowed result → left ≡ found result looks.store (given_up first.device)
         → HasAsked first last × (records left ≡ records_of first)
     by_result (Ok (Some id)) look allowed is = absurd (not_last id allowed.0 (sym (ap (λ (d : DeviceState). d.value) is) ∙ all))
     by_result (Ok None) look allowed is =
@@ -98,7 +101,8 @@ asked_first first last elsewhere left range after looks all same =
     by_result (Err error) look allowed is = absurd (let e : 0 ≡ 2 ^ 64 - 1 = sym (ap (λ (d : DeviceState). d.value) is) ∙ all in omega (arith, e))
 
 -- the action: so it is with the machine of the port
-next_told : (addresses : Addresses) (first mid last : SpaceState) → Takes addresses first 0x8 mid → machine_of last ≡ machine_of mid → NextRound (machine_of first) (machine_of last) (named (Ok (mid.port.device.value % 2 ^ 64)))
+next_told : (addresses : Addresses) (first mid last : SpaceState) → Takes addresses first 0x8 mid → machine_of last ≡ machine_of mid →
+    NextRound (machine_of first) (machine_of last) (named (Ok (mid.port.device.value % 2 ^ 64)))
 next_told addresses first mid last takes same =
     subst (λ (m : MachineState). NextRound (machine_of first) m (named (Ok (mid.port.device.value % 2 ^ 64)))) (sym same) (by_told mid.port.device takes.acted.told refl)
   where
@@ -110,7 +114,8 @@ next_told addresses first mid last takes same =
         ap (λ (range : List ℕ). machine_of (record { port = record mid.port { range = range }; waited = mid.waited })) looks.range_is
         ∙ ap (λ (n : ℕ). machine_of (record { port = record mid.port { range = first.port.range }; waited = n })) takes.waited
 
-    by_told : (device : DeviceState) → Tells addresses.range 0x8 takes.acted.left mid.port.range device → mid.port.device ≡ device → NextRound (machine_of first) (machine_of mid) (named (Ok (mid.port.device.value % 2 ^ 64)))
+    by_told : (device : DeviceState) → Tells addresses.range 0x8 takes.acted.left mid.port.range device → mid.port.device ≡ device →
+        NextRound (machine_of first) (machine_of mid) (named (Ok (mid.port.device.value % 2 ^ 64)))
     by_told device tells = elim tells as (λ device tells. mid.port.device ≡ device → NextRound (machine_of first) (machine_of mid) (named (Ok (mid.port.device.value % 2 ^ 64)))) [
       | Address is ↦ λ new_is. absurd (omega (arith, is))
       | Round new is all again ↦ λ new_is.
@@ -118,13 +123,16 @@ next_told addresses first mid last takes same =
           let repeats : Looked takes.acted.left mid.port.range new mid.port.range = looked takes.acted.left mid.port.range (Some GetRecordIdentifier) new mid.port.range refl again in
           let more : IsSecond takes.acted.left new = second takes.acted.left mid.port.range new mid.port.range repeats ends.ready ends.cursor in
           let asked = asked_first (machine_of first) (machine_of mid) elsewhere takes.acted.left first.port.range mid.port.range looks all (ap (λ (d : DeviceState). d.store) new_is ∙ more.store) in
-          by_second (machine_of first) (machine_of mid) elsewhere asked.0 ends.none takes.acted.left repeats.store repeats.result asked.1 ends.cursor repeats.look repeats.allowed (new_is ∙ repeats.new_is)
+          by_second (machine_of first) (machine_of mid) elsewhere asked.0 ends.none takes.acted.left repeats.store repeats.result asked.1 ends.cursor
+          repeats.look repeats.allowed (new_is ∙ repeats.new_is)
           (λ none. more.some (sym (ap (λ (d : DeviceState). d.value) new_is) ∙ none))
       | Number other further ↦ λ new_is.
-          by_first (machine_of first) (machine_of mid) elsewhere looks.store looks.result looks.look looks.allowed (new_is ∙ looks.new_is) (λ all. further refl (sym (ap (λ (d : DeviceState). d.value) new_is) ∙ all))
+          by_first (machine_of first) (machine_of mid) elsewhere looks.store looks.result looks.look looks.allowed (new_is ∙ looks.new_is)
+          (λ all. further refl (sym (ap (λ (d : DeviceState). d.value) new_is) ∙ all))
     ]
 
-pub next_round : (addresses : Addresses) (budget : ℕ) (first : SpaceState) (result : Result (Option ℕ) ClientError) (left : ℕ) (last : SpaceState) → Names (Goes addresses) (port_entries addresses.registers) budget first result left last
+pub next_round : (addresses : Addresses) (budget : ℕ) (first : SpaceState) (result : Result (Option ℕ) ClientError) (left : ℕ) (last : SpaceState) →
+    Names (Goes addresses) (port_entries addresses.registers) budget first result left last
     → AsksOnce (NextRound (machine_of first) (machine_of last)) budget (machine_of first) (machine_of last) result left
 unfolding port_entries entries_of
 next_round addresses budget first result left last names =

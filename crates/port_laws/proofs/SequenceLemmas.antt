@@ -54,7 +54,8 @@ module _ {W V : Type 0} (allows : W → Call → W → Type 0) (onto : V → Cal
           Again before spare (image mid) answer after (image next) (image new) (busy_carried before spare mid so)
           (all.performs CheckBusyStatus check 0 spare mid (Ok answer) after next run) some (pauses_carried (suc before) next (Ok tt) new pauses)
 
-      pub waits_carried : (result : Result (Unit {0}) ClientError) (left : ℕ) (last : W) → Waits allows entries timings budget first result left last → Waits onto others timings budget (image first) result left (image last)
+      pub waits_carried : (result : Result (Unit {0}) ClientError) (left : ℕ) (last : W) → Waits allows entries timings budget first result left last →
+          Waits onto others timings budget (image first) result left (image last)
       waits_carried result left last waits = elim waits as (λ result left last waits. Waits onto others timings budget (image first) result left (image last)) [
         | IsIdle busy left mid after last so run ↦ IsIdle busy left (image mid) after (image last) (busy_carried busy left mid so) (all.performs CheckBusyStatus check 0 left mid (Ok 0) after last run)
         | IsStopped busy left mid stop after last so run ↦

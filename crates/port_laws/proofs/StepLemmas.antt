@@ -74,7 +74,8 @@ made_one old kind at bytes port medium step due is put =
     ap (drop old.port.origin) there ∙ put_behind old.port.origin place old.medium bytes within ∙ ap (λ (image : List ℕ). put_at image place bytes) step.image in
     let here : place + length bytes ≤ length (held told made) =
     let size = ap length step.image in let rest = length-drop old.port.origin old.medium in let room = step.room in omega (arith, within, size, rest, room) in
-    let torn = tears_part sector told made.changes kind due.0 due.1 due.2 made.bytes (length bytes) (put_at (held told made) place bytes) due.3.inside (SameOutside-put_at (held told made) place bytes here) in
+    let torn = tears_part sector told made.changes kind due.0 due.1 due.2 made.bytes (length bytes) (put_at (held told made) place bytes) due.3.inside
+    (SameOutside-put_at (held told made) place bytes here) in
     subst (λ (p : PortState). IsInStep (record { port = p; medium = medium })) (sym is) (record {
       behind = stays.1;
       begun = λ more. (

@@ -27,7 +27,8 @@ use Rattle.port_laws.proofs.ProgramLemmas.{code_kept}
 
 -- the action is carried out, one step an entry, or the budget ran out before it or behind it
 pub data ToldRun (addresses : Addresses) (code budget : ℕ) (first : SpaceState) : Result ℕ RunStop → ℕ → SpaceState → Type 0 where
-  IsTold : (left : ℕ) (mid : SpaceState) → Takes addresses first code mid → IsPort first.port → IsPort mid.port → left + 2 ≡ budget → ToldRun addresses code budget first (Ok (mid.port.device.value % 2 ^ 64)) left (caught_up mid)
+  IsTold : (left : ℕ) (mid : SpaceState) → Takes addresses first code mid → IsPort first.port → IsPort mid.port → left + 2 ≡ budget →
+      ToldRun addresses code budget first (Ok (mid.port.device.value % 2 ^ 64)) left (caught_up mid)
   StopsAtOnce : budget ≡ 0 → ToldRun addresses code budget first (Err Budget) 0 first
   StopsBehind : (mid : SpaceState) → Takes addresses first code mid → IsPort first.port → IsPort mid.port → budget ≡ 1 → ToldRun addresses code budget first (Err Budget) 0 mid
 
@@ -42,7 +43,11 @@ module _ (addresses : Addresses) (action : Action) where
   acts = StoresOnly WriteRegisterValue (λ task. task.entry.value) (record { place = Memory addresses.registers; access = B32; offset = 0 }) refl (λ task is. refl) refl refl
 
   abbrev tells : IsStraight (takes addresses.registers action (2 ^ 64 - 1))
-  tells = TakesOnly ReadRegister (λ task x. record (next task.at) { result = Some x }) (record { place = Memory (addresses.registers + 8); access = B64; offset = 0 }) refl (λ task is. refl) (λ task x. refl) refl
+  tells = TakesOnly ReadRegister (λ task x. record (next task.at) { result = Some x }) (record {
+    place = Memory (addresses.registers + 8);
+    access = B64;
+    offset = 0;
+  }) refl (λ task is. refl) (λ task x. refl) refl
 
   abbrev straight : AreStraight (Goes addresses) program.entries
   straight =
@@ -74,7 +79,8 @@ module _ (addresses : Addresses) (action : Action) where
     pub told_run : (given budget : ℕ) (result : Result ℕ RunStop) (left : ℕ) (last : SpaceState) → Run (Goes addresses) program given budget first result left last
         → ToldRun addresses (code_of action) budget first result left last
     told_run given budget result left last run =
-        elim (ran_straight (Goes addresses) program straight (omega arith) given budget first result left last run) as (λ result left last ran. ToldRun addresses (code_of action) budget first result left last) [
+        elim (ran_straight (Goes addresses) program straight (omega arith) given budget first result left last run) as
+        (λ result left last ran. ToldRun addresses (code_of action) budget first result left last) [
           | Through c left last does spent ↦
               let mid = does.1.0 in
               let one = acted mid does.1.1.0.1 in
@@ -86,6 +92,7 @@ module _ (addresses : Addresses) (action : Action) where
               sym (ap (λ (d : Configuration). unwrap_or d.result given) (behind.1.1.1.0 ∙ behind.1.1.0.1.0) ∙ ap (λ (n : ℕ). field n 0 (2 ^ 64 - 1)) number
               ∙ and_mask (mid.port.device.value / 2 ^ 0) 64 ∙ (omega arith)) in
               subst (λ (n : ℕ). ToldRun addresses (code_of action) budget first (Ok n) left last) answer
-              (subst (λ (w : SpaceState). ToldRun addresses (code_of action) budget first (Ok (mid.port.device.value % 2 ^ 64)) left w) (sym there) (IsTold left mid one.took one.before one.after spent))
+              (subst (λ (w : SpaceState). ToldRun addresses (code_of action) budget first (Ok (mid.port.device.value % 2 ^ 64)) left w) (sym there)
+              (IsTold left mid one.took one.before one.after spent))
           | OutOfSteps c last does short ↦ out_of_steps given budget c last does short
         ]

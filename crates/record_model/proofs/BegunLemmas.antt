@@ -186,8 +186,15 @@ pub HasPart-filled : (size k id generation number slot : ℕ) (further body imag
 unfolding is_part slot_at
 HasPart-filled size k id generation number slot further body image filled = record {
   is =
-      ap (λ (h : Head). is_part (size - 64) k (first_head id generation further body) number (record { head = h; tail = tail_at image (slot * size) size; body = part image (slot * size + 32) (size - 64) })) filled.head
-      ∙ ap (λ (t : ℕ). is_part (size - 64) k (first_head id generation further body) number (record { head = (part_target (size - 64) k id generation body number slot).head; tail = t; body = part image (slot * size + 32) (size - 64) })) filled.tail
+      ap (λ (h : Head). is_part (size - 64) k (first_head id generation further body) number (record {
+        head = h;
+        tail = tail_at image (slot * size) size;
+        body =
+            part image (slot * size + 32) (size - 64);
+      })) filled.head
+      ∙ ap (λ (t : ℕ). is_part (size - 64) k (first_head id generation further body) number
+      (record { head = (part_target (size - 64) k id generation body number slot).head; tail = t; body = part image (slot * size + 32) (size - 64) }))
+      filled.tail
       ∙ (rw (
         eq-eqb generation generation refl,
         eq-eqb id id refl,
@@ -229,4 +236,5 @@ StandsFirst-opened size k id generation further body old new large filled same g
 }
   where
     first_body : take (part_len (size - 64) (length body) 0) (slot_at size old k).body ≡ part body 0 (part_len (size - 64) (length body) 0)
-    first_body = filled_body size k (part body 0 (part_len (size - 64) (length body) 0)) old (part_len (size - 64) (length body) 0) (length-first (size - 64) body) (part_len-le (size - 64) (length body) 0) filled.bytes
+    first_body = filled_body size k (part body 0 (part_len (size - 64) (length body) 0)) old (part_len (size - 64) (length body) 0)
+        (length-first (size - 64) body) (part_len-le (size - 64) (length body) 0) filled.bytes

@@ -20,7 +20,8 @@ StaysDown-gate size slots slot at len image low closed other same =
     down_by_gate size slots slot other (λ is. closed (sym (number_at-before at len (slot * size) 1 image other same low) ∙ is))
 
 -- while the tail mark is not set and not touched
-pub StaysDown-tail : (size slots slot at len : ℕ) (image : List ℕ) → 1 ≤ size → at + len ≤ slot * size + (size - 1) → tail_at image (slot * size) size ≢ tail_mark → StaysDown at len size slots slot image
+pub StaysDown-tail : (size slots slot at len : ℕ) (image : List ℕ) → 1 ≤ size → at + len ≤ slot * size + (size - 1) →
+    tail_at image (slot * size) size ≢ tail_mark → StaysDown at len size slots slot image
 StaysDown-tail size slots slot at len image some high unmarked other same =
     down_by_tail size slots slot other (λ is. unmarked (sym (tail_at-after at len (slot * size) size image other same some high) ∙ is))
 
@@ -91,7 +92,8 @@ IsCleanFromHead-more layout slot done old new within clean same erased =
           erased);
     }
 
-erased_tail : (layout : Layout) (slot done : ℕ) (image : List ℕ) → done ≤ layout.per_slot → 1 ≤ done → IsErased image (slot * layout.slot_size + (layout.per_slot - done) * layout.sector) (done * layout.sector)
+erased_tail : (layout : Layout) (slot done : ℕ) (image : List ℕ) → done ≤ layout.per_slot → 1 ≤ done →
+    IsErased image (slot * layout.slot_size + (layout.per_slot - done) * layout.sector) (done * layout.sector)
     → tail_at image (slot * layout.slot_size) layout.slot_size ≢ tail_mark
 unfolding tail_at
 erased_tail layout slot done image few some erased marked =

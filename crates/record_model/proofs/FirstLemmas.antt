@@ -192,7 +192,9 @@ first_count entry (suc n) = by_record (entry n) refl (first_count entry n)
           let one : one_if (is_first entry (suc n) n) ≡ 1 = ap one_if first in
           let others : count_below (is_first entry (suc n)) n ≡ count_below (is_first entry n) n =
           count_below-same (is_first entry n) (is_first entry (suc n)) n (λ k h.
-          is_first-same entry entry n (suc n) k h (omega arith) (λ c chosen. more k c (IsChosen-stays entry n k c e at (λ key. absurd (none k c h chosen.here (sym key))) chosen)) (λ c chosen. IsChosen-below entry n k c h chosen)) in
+          is_first-same entry entry n (suc n) k h (omega arith)
+          (λ c chosen. more k c (IsChosen-stays entry n k c e at (λ key. absurd (none k c h chosen.here (sym key))) chosen))
+          (λ c chosen. IsChosen-below entry n k c h chosen)) in
           let absent : get (selected entry n) e.id ≡ None = get-no_slot entry n e.id none in
           let grown : len (with_entry (Some e) (selected entry n)) ≡ len (selected entry n) + 1 =
           ap (λ (o : Option (List ℕ × ℕ)). len (cond (is_newer e o) (insert (selected entry n) e.id (e.body, e.generation)) (selected entry n))) absent
@@ -229,7 +231,8 @@ first_count entry (suc n) = by_record (entry n) refl (first_count entry n)
                   (λ b its. more k b (IsChosen-stays entry n k b e at (λ same. absurd (apart (IsChosen-unique entry n k j b c its chosen (sym same ∙ sym key)))) its))
                   (λ b its. IsChosen-below entry n k b h its)) in
                   let stays : len (with_entry (Some e) (selected entry n)) ≡ len (selected entry n) =
-                  ap (λ (m : Stored). len m) is ∙ ap (λ (b : Bool). len (cond b (insert (selected entry n) e.id (e.body, e.generation)) (selected entry n))) (lt-ltb c.generation e.generation newer) ∙ same_len in
+                  ap (λ (m : Stored). len m) is ∙ ap (λ (b : Bool). len (cond b (insert (selected entry n) e.id (e.body, e.generation)) (selected entry n)))
+                  (lt-ltb c.generation e.generation newer) ∙ same_len in
                   omega arith
               | inr older ↦
                   let none : one_if (is_first entry (suc n) n) ≡ 0 = ap one_if (last_false (λ x its.

@@ -45,7 +45,8 @@ pub clear_leaves : (size slots j : ℕ) (e : Entry) (old new : Told) → 64 ≤ 
 unfolding stored_in
 clear_leaves size slots j e old new some only was change =
     Leaves-change (j * size + 1) 1 old new
-    (λ image. (selected (entry_at size slots image) slots ≡ selected (entry_at size slots old.image) slots) ⊎ (selected (entry_at size slots image) slots ≡ remove (selected (entry_at size slots old.image) slots) e.id)) change
+    (λ image. (selected (entry_at size slots image) slots ≡ selected (entry_at size slots old.image) slots) ⊎ (selected (entry_at size slots image) slots
+    ≡ remove (selected (entry_at size slots old.image) slots) e.id)) change
     (λ image same. elim (clear_kill size slots j old.image image e some only was same) [
       | inl stays ↦ inl (ap (λ (entry : ℕ → Option Entry). selected entry slots) stays)
       | inr gone ↦ inr gone.1

@@ -16,7 +16,8 @@ made_in_all : (per_slot room size n : ℕ)
 unfolding made_in_further pieces_of_parts
 made_in_all per_slot room size zero = let one : 1 * (per_slot + 2) ≡ per_slot + 2 = omega arith in omega arith
 made_in_all per_slot room size (suc n) =
-    let so_far : made_in_further per_slot room size n + (per_slot + 2 + pieces_of (part_len room size 0)) ≡ suc n * (per_slot + 2) + pieces_of_parts room size (suc n) = made_in_all per_slot room size n in
+    let so_far : made_in_further per_slot room size n + (per_slot + 2 + pieces_of (part_len room size 0)) ≡ suc n * (per_slot + 2) + pieces_of_parts room size
+    (suc n) = made_in_all per_slot room size n in
     let spread : (suc n + 1) * (per_slot + 2) ≡ suc n * (per_slot + 2) + 1 * (per_slot + 2) = add-mul (suc n) 1 (per_slot + 2) in
     let next : suc (suc n) * (per_slot + 2) ≡ (suc n + 1) * (per_slot + 2) = ap (λ (m : ℕ). m * (per_slot + 2)) (omega arith) in
     omega arith
@@ -42,33 +43,42 @@ none_made per_slot len true = refl
 none_made per_slot len false = refl
 
 -- behind a sector the next one is erased, or all are
-one_sector_more : (f : Stage → ℕ) (layout : Layout) (done : ℕ) (next all : Stage) (n : ℕ) → done < layout.per_slot → f next ≡ n → (done + 1 ≡ layout.per_slot → f all ≡ n) → f (cond (nat_lt (done + 1) layout.per_slot) next all) ≡ n
+one_sector_more : (f : Stage → ℕ) (layout : Layout) (done : ℕ) (next all : Stage) (n : ℕ) → done < layout.per_slot → f next ≡ n →
+    (done + 1 ≡ layout.per_slot → f all ≡ n) → f (cond (nat_lt (done + 1) layout.per_slot) next all) ≡ n
 one_sector_more f layout done next all n low more last =
     by_choice f (nat_lt (done + 1) layout.per_slot) next all n (λ on. more) (λ past. last (let least : layout.per_slot ≤ done + 1 = ltb-false (done + 1) layout.per_slot past in omega arith))
 
 -- one change more is made at the stage after one
 pub made_one_more : (layout : Layout) (plan : Plan) (number : ℕ) (step : Step) → number ≤ length plan.further → IsStep layout (length (target_of layout plan number).bytes) step
     → made_at layout plan (stage_after layout plan number step) ≡ made_at layout plan (Fill number step) + 1
-made_one_more layout plan zero (EraseFromHead done) h form = one_sector_more (made_at layout plan) layout done (Fill 0 (EraseFromHead (done + 1))) (Fill 0 PutHead) _ form (omega arith) (λ last. omega arith)
-made_one_more layout plan (suc n) (EraseFromHead done) h form = one_sector_more (made_at layout plan) layout done (Fill (suc n) (EraseFromHead (done + 1))) (Fill (suc n) PutHead) _ form (omega arith) (λ last. omega arith)
-made_one_more layout plan zero (EraseFromTail done) h form = one_sector_more (made_at layout plan) layout done (Fill 0 (EraseFromTail (done + 1))) (Fill 0 PutHead) _ form (omega arith) (λ last. omega arith)
-made_one_more layout plan (suc n) (EraseFromTail done) h form = one_sector_more (made_at layout plan) layout done (Fill (suc n) (EraseFromTail (done + 1))) (Fill (suc n) PutHead) _ form (omega arith) (λ last. omega arith)
+made_one_more layout plan zero (EraseFromHead done) h form = one_sector_more (made_at layout plan) layout done (Fill 0 (EraseFromHead (done + 1)))
+    (Fill 0 PutHead) _ form (omega arith) (λ last. omega arith)
+made_one_more layout plan (suc n) (EraseFromHead done) h form = one_sector_more (made_at layout plan) layout done (Fill (suc n) (EraseFromHead (done + 1)))
+    (Fill (suc n) PutHead) _ form (omega arith) (λ last. omega arith)
+made_one_more layout plan zero (EraseFromTail done) h form = one_sector_more (made_at layout plan) layout done (Fill 0 (EraseFromTail (done + 1)))
+    (Fill 0 PutHead) _ form (omega arith) (λ last. omega arith)
+made_one_more layout plan (suc n) (EraseFromTail done) h form = one_sector_more (made_at layout plan) layout done (Fill (suc n) (EraseFromTail (done + 1)))
+    (Fill (suc n) PutHead) _ form (omega arith) (λ last. omega arith)
 made_one_more layout plan zero PutHead h form = omega arith
 made_one_more layout plan (suc n) PutHead h form = omega arith
 made_one_more layout plan zero (Piece piece) h form =
     let long = length-first (layout.slot_size - 64) plan.body in
     by_choice (made_at layout plan) (nat_lt (256 * (piece + 1)) (length (target_of layout plan 0).bytes)) (Fill 0 (Piece (piece + 1))) (Fill 0 TailMark) _ (λ on. omega arith)
-    (λ all. let past : length (target_of layout plan 0).bytes ≤ 256 * (piece + 1) = ltb-false (256 * (piece + 1)) _ all in let low : 256 * piece < length (target_of layout plan 0).bytes = form in omega arith)
+    (λ all. let past : length (target_of layout plan 0).bytes ≤ 256 * (piece + 1) = ltb-false (256 * (piece + 1)) _ all in
+    let low : 256 * piece < length (target_of layout plan 0).bytes = form in omega arith)
 made_one_more layout plan (suc n) (Piece piece) h form =
     let long = length-bytes (layout.slot_size - 64) (suc n) plan.body in
     by_choice (made_at layout plan) (nat_lt (256 * (piece + 1)) (length (target_of layout plan (suc n)).bytes)) (Fill (suc n) (Piece (piece + 1))) (Fill (suc n) TailMark) _ (λ on. omega arith)
-    (λ all. let past : length (target_of layout plan (suc n)).bytes ≤ 256 * (piece + 1) = ltb-false (256 * (piece + 1)) _ all in let low : 256 * piece < length (target_of layout plan (suc n)).bytes = form in omega arith)
+    (λ all. let past : length (target_of layout plan (suc n)).bytes ≤ 256 * (piece + 1) = ltb-false (256 * (piece + 1)) _ all in
+    let low : 256 * piece < length (target_of layout plan (suc n)).bytes = form in omega arith)
 made_one_more layout plan zero TailMark h form = omega arith
 made_one_more layout plan (suc n) TailMark h form =
     let room = layout.slot_size - 64 in
     let len = length plan.body in
-    let one : made_in_further layout.per_slot room len (suc n) ≡ made_in_further layout.per_slot room len n + (layout.per_slot + 2 + pieces_of (part_len room len (suc n))) = made_more layout.per_slot room len n in
-    by_choice (made_at layout plan) (nat_lt (suc n) (length plan.further)) (Fill (suc (suc n)) (first_step (plan.marked (get_or plan.further (suc n) 0)))) (Fill 0 (first_step (plan.marked plan.first)))
+    let one : made_in_further layout.per_slot room len (suc n) ≡ made_in_further layout.per_slot room len n +
+    (layout.per_slot + 2 + pieces_of (part_len room len (suc n))) = made_more layout.per_slot room len n in
+    by_choice (made_at layout plan) (nat_lt (suc n) (length plan.further)) (Fill (suc (suc n)) (first_step (plan.marked (get_or plan.further (suc n) 0))))
+    (Fill 0 (first_step (plan.marked plan.first)))
     (made_at layout plan (Fill (suc n) TailMark) + 1)
     (λ more. let none = none_made layout.per_slot (part_len room len (suc (suc n))) (plan.marked (get_or plan.further (suc n) 0)) in omega arith)
     (λ all.

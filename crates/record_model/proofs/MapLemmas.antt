@@ -24,8 +24,10 @@ pub refusal_of-new : (layout : Layout) (free id : ℕ) (bytes : List ℕ) (store
 unfolding refusal_of
 refusal_of-new layout free id bytes stored reserved new counted =
     let left : layout.slots - parts_in (room_of layout) stored ≡ free = omega arith in
-    ap (λ (b : Bool). cond {A = Option Refusal} b (Some Failed) (cond (is_last_generation (get stored id)) (Some Failed) (cond (nat_lt (free_by layout stored) (slots_wanted (parts_of (room_of layout) (length bytes)) (get stored id))) (Some NoSpace) None))) reserved
-    ∙ ap (λ (o : Option (List ℕ × ℕ)). cond {A = Option Refusal} (is_last_generation o) (Some Failed) (cond (nat_lt (free_by layout stored) (slots_wanted (parts_of (room_of layout) (length bytes)) o)) (Some NoSpace) None)) new
+    ap (λ (b : Bool). cond {A = Option Refusal} b (Some Failed) (cond (is_last_generation (get stored id)) (Some Failed)
+    (cond (nat_lt (free_by layout stored) (slots_wanted (parts_of (room_of layout) (length bytes)) (get stored id))) (Some NoSpace) None))) reserved
+    ∙ ap (λ (o : Option (List ℕ × ℕ)). cond {A = Option Refusal} (is_last_generation o) (Some Failed)
+    (cond (nat_lt (free_by layout stored) (slots_wanted (parts_of (room_of layout) (length bytes)) o)) (Some NoSpace) None)) new
     ∙ ap (λ (n : ℕ). cond {A = Option Refusal} (nat_lt n (parts_of (room_of layout) (length bytes) + 1)) (Some NoSpace) None) left
 
 -- a command that is not refused is done

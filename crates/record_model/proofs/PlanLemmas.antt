@@ -1,5 +1,6 @@
 -- A record that is being written into several slots: what each change leaves, whatever is torn.
-use Rattle.std.proofs.Common.{◌≡◌, ◌≢◌, ◌⊎◌, ℕ, zero, suc, ◌+◌, ◌-◌, ◌*◌, ◌<◌, ◌≤◌, Bool, true, false, List, [], ◌∷◌, ◌++◌, length, take, drop, get_or, Option, Some, refl, sym, ap, subst, ◌∙◌, arith, inl, inr}
+use Rattle.std.proofs.Common.{◌≡◌, ◌≢◌, ◌⊎◌, ℕ, zero, suc, ◌+◌, ◌-◌, ◌*◌, ◌<◌, ◌≤◌, Bool, true, false, List, [], ◌∷◌, ◌++◌, length, take, drop, get_or, Option}
+use Rattle.std.proofs.Common.{Some, refl, sym, ap, subst, ◌∙◌, arith, inl, inr}
 use Rattle.std.specs.Prelude.{◌==◌, ◌||◌}
 use Rattle.std.specs.List.{list_any}
 use Rattle.std.specs.FinMap.{insert}
@@ -160,7 +161,8 @@ record_for plan = record { id = plan.id; generation = plan.generation; body = pl
 
 -- The gate. Behind an open gate stands the whole record
 pub opened_entry : (layout : Layout) (plan : Plan) (old new : List ℕ) → IsPlan layout plan → KnowsPlan layout plan old → StandsAtStage layout plan old Gate
-    → SameOutside (plan.first * layout.slot_size) 1 old new → number_at new (plan.first * layout.slot_size) 1 ≡ gate_open → entry_at layout.slot_size layout.slots new plan.first ≡ Some (record_for plan)
+    → SameOutside (plan.first * layout.slot_size) 1 old new → number_at new (plan.first * layout.slot_size) 1 ≡ gate_open →
+    entry_at layout.slot_size layout.slots new plan.first ≡ Some (record_for plan)
 unfolding entry_at
 opened_entry layout plan old new is knows stands same gate =
     let size = layout.slot_size in

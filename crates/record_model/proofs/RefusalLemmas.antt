@@ -27,8 +27,10 @@ write_by : (layout : Layout) (id : ℕ) (bytes : List ℕ) (stored : Stored) (ke
     ≡ cond {A = Option Refusal} (is_last_generation kept) (Some Failed) (cond (nat_lt (free_by layout stored) (slots_wanted (parts_of (room_of layout) (length bytes)) kept)) (Some NoSpace) None)
 unfolding refusal_of
 write_by layout id bytes stored kept allowed is =
-    ap (λ (b : Bool). cond {A = Option Refusal} b (Some Failed) (cond (is_last_generation (get stored id)) (Some Failed) (cond (nat_lt (free_by layout stored) (slots_wanted (parts_of (room_of layout) (length bytes)) (get stored id))) (Some NoSpace) None))) allowed
-    ∙ ap (λ (o : Option (List ℕ × ℕ)). cond {A = Option Refusal} (is_last_generation o) (Some Failed) (cond (nat_lt (free_by layout stored) (slots_wanted (parts_of (room_of layout) (length bytes)) o)) (Some NoSpace) None)) is
+    ap (λ (b : Bool). cond {A = Option Refusal} b (Some Failed) (cond (is_last_generation (get stored id)) (Some Failed)
+    (cond (nat_lt (free_by layout stored) (slots_wanted (parts_of (room_of layout) (length bytes)) (get stored id))) (Some NoSpace) None))) allowed
+    ∙ ap (λ (o : Option (List ℕ × ℕ)). cond {A = Option Refusal} (is_last_generation o) (Some Failed)
+    (cond (nat_lt (free_by layout stored) (slots_wanted (parts_of (room_of layout) (length bytes)) o)) (Some NoSpace) None)) is
 
 -- the record that is stored has the last generation
 pub write_at_last : (layout : Layout) (id : ℕ) (bytes body : List ℕ) (stored : Stored) → is_reserved id ≡ false → get stored id ≡ Some (body, LAST_GENERATION)
@@ -36,13 +38,15 @@ pub write_at_last : (layout : Layout) (id : ℕ) (bytes body : List ℕ) (stored
 write_at_last layout id bytes body stored allowed is = write_by layout id bytes stored (Some (body, LAST_GENERATION)) allowed is
 
 -- a new identifier wants two free slots
-pub write_new_no_space : (layout : Layout) (free id : ℕ) (bytes : List ℕ) (stored : Stored) → is_reserved id ≡ false → get stored id ≡ None → free + parts_in (room_of layout) stored ≡ layout.slots → free < parts_of (room_of layout) (length bytes) + 1
+pub write_new_no_space : (layout : Layout) (free id : ℕ) (bytes : List ℕ) (stored : Stored) → is_reserved id ≡ false → get stored id ≡ None →
+    free + parts_in (room_of layout) stored ≡ layout.slots → free < parts_of (room_of layout) (length bytes) + 1
     → refusal_of layout (Write id bytes) stored ≡ Some NoSpace
 write_new_no_space layout free id bytes stored allowed is counted few =
     refusal_of-new layout free id bytes stored allowed is counted
     ∙ ap (λ (b : Bool). cond {A = Option Refusal} b (Some NoSpace) None) (lt-ltb free (parts_of (room_of layout) (length bytes) + 1) few)
 
-pub write_new_taken : (layout : Layout) (free id : ℕ) (bytes : List ℕ) (stored : Stored) → is_reserved id ≡ false → get stored id ≡ None → free + parts_in (room_of layout) stored ≡ layout.slots → parts_of (room_of layout) (length bytes) + 1 ≤ free
+pub write_new_taken : (layout : Layout) (free id : ℕ) (bytes : List ℕ) (stored : Stored) → is_reserved id ≡ false → get stored id ≡ None →
+    free + parts_in (room_of layout) stored ≡ layout.slots → parts_of (room_of layout) (length bytes) + 1 ≤ free
     → refusal_of layout (Write id bytes) stored ≡ None
 write_new_taken layout free id bytes stored allowed is counted enough =
     refusal_of-new layout free id bytes stored allowed is counted
@@ -54,7 +58,8 @@ write_over : (layout : Layout) (free id generation : ℕ) (bytes body : List ℕ
 write_over layout free id generation bytes body stored allowed is apart counted =
     let left : layout.slots - parts_in (room_of layout) stored ≡ free = omega arith in
     write_by layout id bytes stored (Some (body, generation)) allowed is
-    ∙ ap (λ (b : Bool). cond {A = Option Refusal} b (Some Failed) (cond (nat_lt (free_by layout stored) (parts_of (room_of layout) (length bytes))) (Some NoSpace) None)) (ne_eqb generation LAST_GENERATION apart)
+    ∙ ap (λ (b : Bool). cond {A = Option Refusal} b (Some Failed) (cond (nat_lt (free_by layout stored) (parts_of (room_of layout) (length bytes)))
+    (Some NoSpace) None)) (ne_eqb generation LAST_GENERATION apart)
     ∙ ap (λ (n : ℕ). cond {A = Option Refusal} (nat_lt n (parts_of (room_of layout) (length bytes))) (Some NoSpace) None) left
 
 pub write_over_no_space : (layout : Layout) (free id generation : ℕ) (bytes body : List ℕ) (stored : Stored) → is_reserved id ≡ false → get stored id ≡ Some (body, generation)

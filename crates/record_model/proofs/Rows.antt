@@ -6,7 +6,20 @@ use Rattle.record_model.specs.RecordMap.{pieces_of_parts}
 use Rattle.record_model.proofs.RefusalLemmas.{changes_of_write}
 
 abbrev layout : Layout
-layout = record { sector = 4096; per_slot = 2; slots = 4; slot_size = 8192; product = refl; least_sector = omega arith; few_sectors = omega arith; few_slots = omega arith; many_slots = omega arith; least_slot = omega arith; greatest_slot = omega arith }
+layout = record {
+  sector = 4096;
+  per_slot = 2;
+  slots = 4;
+  slot_size = 8192;
+  product = refl;
+  least_sector = omega arith;
+  few_sectors = omega arith;
+  few_slots =
+      omega arith;
+  many_slots = omega arith;
+  least_slot = omega arith;
+  greatest_slot = omega arith;
+}
 
 fits_one : changes_of_write layout 8128 None ≡ 37
 unfolding parts_of part_len pieces_of_parts

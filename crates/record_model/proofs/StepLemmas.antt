@@ -1,5 +1,6 @@
 -- Each step of a write over several slots: what power lost in its change leaves, and the stage that the whole change leads to.
-use Rattle.std.proofs.Common.{◌≡◌, ◌≢◌, ℕ, zero, suc, ◌+◌, ◌-◌, ◌*◌, ◌^◌, ◌<◌, ◌≤◌, Bool, true, false, cond, List, [], ◌∷◌, ◌++◌, length, take, drop, get_or, refl, sym, ap, subst, ◌∙◌, arith, inl, inr}
+use Rattle.std.proofs.Common.{◌≡◌, ◌≢◌, ℕ, zero, suc, ◌+◌, ◌-◌, ◌*◌, ◌^◌, ◌<◌, ◌≤◌, Bool, true, false, cond, List, [], ◌∷◌, ◌++◌, length, take, drop, get_or}
+use Rattle.std.proofs.Common.{refl, sym, ap, subst, ◌∙◌, arith, inl, inr}
 use Rattle.std.specs.Prelude.{◌==◌, ◌||◌, nat_lt, min}
 use Rattle.std.specs.List.{list_any}
 use Rattle.std.proofs.lemmas.Bool.{ltb-true, ltb-false, eqb-true, eqb-false, eq-eqb, or_cases, false_from_ne_true, both_ways}
@@ -9,8 +10,10 @@ use Rattle.base_model.specs.Bytes.{SameOutside, part, spelled}
 use Rattle.base_model.proofs.BytesLemmas.{SameOutside-wider}
 use Rattle.base_model.specs.Flash.{IsErased}
 use Rattle.base_model.specs.Layout.{Layout, reach_of}
-use Rattle.record_model.specs.Records.{slot_at, head_fields, head_bytes, tail_at, is_up, entry_of, entry_at, is_taken, OnlyFirstUp, part_len, named, AreBelow, gate_further, gate_open, tail_mark, not_killed}
-use Rattle.record_model.specs.Filling.{Target, first_target, IsCleanFromHead, IsCleanFromTail, IsBegun, IsFilled, Step, EraseFromHead, EraseFromTail, PutHead, Piece, TailMark, StandsAt, IsStep, place_of, len_of, IsWritten}
+use Rattle.record_model.specs.Records.{slot_at, head_fields, head_bytes, tail_at, is_up, entry_of, entry_at, is_taken, OnlyFirstUp, part_len, named, AreBelow}
+use Rattle.record_model.specs.Records.{gate_further, gate_open, tail_mark, not_killed}
+use Rattle.record_model.specs.Filling.{Target, first_target, IsCleanFromHead, IsCleanFromTail, IsBegun, IsFilled, Step, EraseFromHead, EraseFromTail, PutHead}
+use Rattle.record_model.specs.Filling.{Piece, TailMark, StandsAt, IsStep, place_of, len_of, IsWritten}
 use Rattle.record_model.specs.Plan.{Plan, IsPlan, Stage, Fill, target_of, slots_ahead, PartsStand, KnowsPlan, StandsAtStage, first_step, after_part, stage_after}
 use Rattle.record_model.proofs.LiveLemmas.{only_live, entry_live, free_none}
 use Rattle.record_model.proofs.FillLemmas.{reach, StaysDown-from_head, StaysDown-from_tail, IsCleanFromHead-more, IsCleanFromTail-more}
@@ -20,7 +23,8 @@ use Rattle.record_model.proofs.MarkLemmas.{open_is_not_further, open_is_not_eras
 use Rattle.record_model.proofs.Words.{StaysDown}
 
 -- a free slot is not upright
-pub free_down : (size slots j : ℕ) (image : List ℕ) → OnlyFirstUp size slots image → j < slots → is_taken (entry_at size slots image) slots j ≡ false → is_up (size - 64) slots (slot_at size image j) ≡ false
+pub free_down : (size slots j : ℕ) (image : List ℕ) → OnlyFirstUp size slots image → j < slots → is_taken (entry_at size slots image) slots j ≡ false →
+    is_up (size - 64) slots (slot_at size image j) ≡ false
 unfolding entry_at
 free_down size slots j image only within free = false_from_ne_true (is_up (size - 64) slots (slot_at size image j)) (λ up.
     none-some _ (sym (free_none (entry_of (size - 64) slots (slot_at size image)) slots j within free)
@@ -58,7 +62,8 @@ step_down layout plan number (Piece piece) image form down stands =
     let target = target_of layout plan number in
     let fits : length target.bytes ≤ layout.slot_size - 64 = bytes_fit layout plan number in
     let low : 256 * piece < length target.bytes = form in
-    StaysDown-begun layout.slot_size layout.slots target (256 * piece) (target.slot * layout.slot_size + 32 + 256 * piece) (min 256 (length target.bytes - 256 * piece)) image large (omega arith) stands (omega arith)
+    StaysDown-begun layout.slot_size layout.slots target (256 * piece) (target.slot * layout.slot_size + 32 + 256 * piece)
+    (min 256 (length target.bytes - 256 * piece)) image large (omega arith) stands (omega arith)
 step_down layout plan number TailMark image form down stands =
     let large : 512 ≤ layout.slot_size = layout.least_slot in
     let target = target_of layout plan number in
@@ -111,7 +116,8 @@ step_torn layout plan number step old image is h form knows stands same =
     })
 
 -- the head of a first slot, by how many further slots it names
-first_begun : (layout : Layout) (plan : Plan) (further : List ℕ) (old new : List ℕ) → length further ≤ 3 → AreBelow layout.slots further → plan.id < 2 ^ 64 → plan.generation < 2 ^ 32 → length plan.body < 2 ^ 32
+first_begun : (layout : Layout) (plan : Plan) (further : List ℕ) (old new : List ℕ) → length further ≤ 3 → AreBelow layout.slots further → plan.id < 2 ^ 64 →
+    plan.generation < 2 ^ 32 → length plan.body < 2 ^ 32
     → IsErased old (plan.first * layout.slot_size) layout.slot_size → SameOutside (plan.first * layout.slot_size + 2) 24 old new
     → part new (plan.first * layout.slot_size + 2) 24 ≡ head_fields (first_target (layout.slot_size - 64) plan.first plan.id plan.generation further plan.body).head
     → IsBegun layout.slot_size (first_target (layout.slot_size - 64) plan.first plan.id plan.generation further plan.body) 0 new
@@ -150,7 +156,8 @@ by_choice layout plan image true one other first second = first refl
 by_choice layout plan image false one other first second = second refl
 
 -- a slot all of whose sectors are erased
-all_from_head : (layout : Layout) (slot done : ℕ) (image : List ℕ) → done ≡ layout.per_slot → IsCleanFromHead layout.slot_size layout.sector slot done image → IsErased image (slot * layout.slot_size) layout.slot_size
+all_from_head : (layout : Layout) (slot done : ℕ) (image : List ℕ) → done ≡ layout.per_slot → IsCleanFromHead layout.slot_size layout.sector slot done image →
+    IsErased image (slot * layout.slot_size) layout.slot_size
 all_from_head layout slot done image all clean =
     let r = reach layout.per_slot layout.slot_size layout.sector done (omega arith) layout.product in
     let whole : (layout.per_slot - done) * layout.sector + done * layout.sector ≡ layout.slot_size = r.whole in
@@ -158,7 +165,8 @@ all_from_head layout slot done image all clean =
     let size : done * layout.sector ≡ layout.slot_size = omega arith in
     subst (λ (n : ℕ). IsErased image (slot * layout.slot_size) n) size clean.erased
 
-all_from_tail : (layout : Layout) (slot done : ℕ) (image : List ℕ) → done ≡ layout.per_slot → IsCleanFromTail layout.slot_size layout.sector layout.per_slot slot done image → IsErased image (slot * layout.slot_size) layout.slot_size
+all_from_tail : (layout : Layout) (slot done : ℕ) (image : List ℕ) → done ≡ layout.per_slot → IsCleanFromTail layout.slot_size layout.sector layout.per_slot
+    slot done image → IsErased image (slot * layout.slot_size) layout.slot_size
 all_from_tail layout slot done image all clean =
     let r = reach layout.per_slot layout.slot_size layout.sector done (omega arith) layout.product in
     let whole : (layout.per_slot - done) * layout.sector + done * layout.sector ≡ layout.slot_size = r.whole in
@@ -168,7 +176,8 @@ all_from_tail layout slot done image all clean =
     subst (λ (n : ℕ). IsErased image (slot * layout.slot_size) n) size (subst (λ (k : ℕ). IsErased image k (done * layout.sector)) at clean.erased)
 
 -- what stands before the first change of a slot
-first_stands : (layout : Layout) (target : Target) (image : List ℕ) (marked : Bool) → ((slot_at layout.slot_size image target.slot).tail == tail_mark) ≡ marked → StandsAt layout target image (first_step marked)
+first_stands : (layout : Layout) (target : Target) (image : List ℕ) (marked : Bool) → ((slot_at layout.slot_size image target.slot).tail == tail_mark) ≡ marked
+    → StandsAt layout target image (first_step marked)
 unfolding part slot_at
 first_stands layout target image true is = record {
   marked = λ none. eqb-true (tail_at image (target.slot * layout.slot_size) layout.slot_size) tail_mark is;
@@ -236,7 +245,8 @@ further_begun layout plan n old new few within id generation blank same fields =
     let most : part_len (layout.slot_size - 64) (length plan.body) (suc n) ≤ layout.slot_size - 64 = part_len-le (layout.slot_size - 64) (length plan.body) (suc n) in
     let great : layout.slot_size ≤ 65600 = layout.greatest_slot in
     let many : layout.slots ≤ 1024 = layout.many_slots in
-    IsBegun-further layout.slot_size (target_of layout plan (suc n)) gate_further not_killed 3 plan.generation plan.id (part_len (layout.slot_size - 64) (length plan.body) (suc n)) (suc n) plan.first old new layout.least_slot refl
+    IsBegun-further layout.slot_size (target_of layout plan (suc n)) gate_further not_killed 3 plan.generation plan.id
+    (part_len (layout.slot_size - 64) (length plan.body) (suc n)) (suc n) plan.first old new layout.least_slot refl
     (record { format_fits = omega arith; generation_fits = generation; id_fits = id; len_fits = omega arith; a_fits = omega arith; b_fits = omega arith; c_fits = omega arith }) blank same fields
 
 take_whole : (n : ℕ) (xs : List ℕ) → length xs ≤ n → take n xs ≡ xs
@@ -291,8 +301,12 @@ step_made layout plan number (EraseFromTail done) old new is h form knows stands
     sector_made layout plan number done (EraseFromTail (done + 1)) new form (known.parts, more, known.ahead)
     (λ last. (known.parts, all_from_tail layout (target_of layout plan number).slot (done + 1) new last more, known.ahead))
 step_made layout plan zero PutHead old new is h form knows stands same written =
-    let known = step_torn layout plan zero PutHead old new is h form knows stands same in
-    (known.parts, first_begun layout plan plan.further old new is.names.few is.names.below is.id is.generation (let most = is.names.most in let small = reach_small (layout.slot_size - 64) in omega arith) stands.1 same written, known.ahead)
+    let known = step_torn layout plan zero PutHead old new is h form knows stands same in (
+      known.parts,
+      first_begun layout plan plan.further old new is.names.few is.names.below is.id is.generation (let most = is.names.most in let small =
+          reach_small (layout.slot_size - 64) in omega arith) stands.1 same written,
+      known.ahead,
+    )
 step_made layout plan (suc n) PutHead old new is h form knows stands same written =
     let known = step_torn layout plan (suc n) PutHead old new is h form knows stands same in
     let few : length plan.further ≤ 3 = is.names.few in
@@ -324,7 +338,8 @@ first_stage plan = cond (nat_lt 0 (length plan.further)) (Fill 1 (first_step (pl
 
 -- it stands where the tail marks of the slots were read
 pub first_stage_stands : (layout : Layout) (plan : Plan) (image : List ℕ)
-    → ((n : ℕ) → list_any (λ m. n == m) (plan.first ∷ plan.further) ≡ true → ((slot_at layout.slot_size image n).tail == tail_mark) ≡ plan.marked n) → StandsAtStage layout plan image (first_stage plan)
+    → ((n : ℕ) → list_any (λ m. n == m) (plan.first ∷ plan.further) ≡ true → ((slot_at layout.slot_size image n).tail == tail_mark) ≡ plan.marked n) →
+    StandsAtStage layout plan image (first_stage plan)
 first_stage_stands layout plan image read =
     by_choice layout plan image (nat_lt 0 (length plan.further)) (Fill 1 (first_step (plan.marked (get_or plan.further 0 0)))) (Fill 0 (first_step (plan.marked plan.first)))
     (λ more.

@@ -1,5 +1,6 @@
 -- The second pass of a scan: what each kill leaves, and what stands at the end.
-use Rattle.std.proofs.Common.{◌≡◌, ◌≢◌, ℕ, zero, suc, ◌+◌, ◌-◌, ◌*◌, ◌<◌, ◌≤◌, Bool, true, false, not, List, [], ◌∷◌, length, take, replicate, get_or, Option, Some, None, refl, sym, ap, subst, ◌∙◌, arith, inl, inr}
+use Rattle.std.proofs.Common.{◌≡◌, ◌≢◌, ℕ, zero, suc, ◌+◌, ◌-◌, ◌*◌, ◌<◌, ◌≤◌, Bool, true, false, not, List, [], ◌∷◌, length, take, replicate, get_or, Option}
+use Rattle.std.proofs.Common.{Some, None, refl, sym, ap, subst, ◌∙◌, arith, inl, inr}
 use Rattle.std.specs.Prelude.{◌==◌, ◌||◌}
 use Rattle.std.specs.List.{list_any}
 use Rattle.std.proofs.lemmas.Bool.{cases_eq, cases_Bool, eq-eqb, eqb-true, or_cases, both_ways, false_from_ne_true}
@@ -8,7 +9,8 @@ use Rattle.base_model.specs.Bytes.{SameOutside, part, little, number_at}
 use Rattle.base_model.proofs.BytesLemmas.{length-part}
 use Rattle.std.proofs.Math.Nat.{mul_comm}
 use Rattle.base_model.specs.Flash.{Told, FlashState, Changed, MayChange, IsErased, next_count}
-use Rattle.record_model.specs.Records.{Slot, head_at, tail_at, slot_at, is_up, Entry, entry_of, entry_at, stored_in, IsChosen, holds, is_taken, HasNearlyOnlyFirst, OnlyFirstUp, NearlyOnlyFirstUp, parts_of, second_copies, kill_mark}
+use Rattle.record_model.specs.Records.{Slot, head_at, tail_at, slot_at, is_up, Entry, entry_of, entry_at, stored_in, IsChosen, holds, is_taken}
+use Rattle.record_model.specs.Records.{HasNearlyOnlyFirst, OnlyFirstUp, NearlyOnlyFirstUp, parts_of, second_copies, kill_mark}
 use Rattle.base_model.proofs.CrashLemmas.{Leaves-none, Leaves-change, Leaves-weaker, Leaves-then, Leaves-exit}
 use Rattle.record_model.proofs.ChosenLemmas.{IsChosen-unique, IsChosen-without}
 use Rattle.record_model.proofs.LiveLemmas.{IsKilled, killed_others, kill_only, down_entry}
@@ -230,7 +232,8 @@ taken_is size slots k image ids places some sized paired only listed =
     taken_by_places (size - 64) slots k (entry_at size slots image) ids places paired (only_chosen size slots image only) (parts_counted size slots image some sized) listed
 
 -- at the end of the second pass
-pub settled_only : (size slots : ℕ) (old now : FlashState) (found : Found) → length found.places.items ≡ length found.ids.items → IsSettled size slots slots old now found → OnlyFirstUp size slots now.told.image
+pub settled_only : (size slots : ℕ) (old now : FlashState) (found : Found) → length found.places.items ≡ length found.ids.items →
+    IsSettled size slots slots old now found → OnlyFirstUp size slots now.told.image
 unfolding entry_at
 settled_only size slots old now found paired had =
     λ k h up. first_chosen (entry_at size slots now.told.image) slots k found.ids.items found.places.items paired had.listed (had.settled k h up)
@@ -270,7 +273,8 @@ StaysNearly-none size slots told = Leaves-none told (λ image. NearlyOnlyFirstUp
 pub StaysNearly-then : (size slots : ℕ) (old mid new : Told) → StaysNearly size slots old mid → StaysNearly size slots mid new → StaysNearly size slots old new
 StaysNearly-then size slots old mid new first second =
     Leaves-then old mid new (λ image. NearlyOnlyFirstUp size slots old.image → NearlyOnlyFirstUp size slots image) first
-    (Leaves-weaker mid new (λ image. NearlyOnlyFirstUp size slots mid.image → NearlyOnlyFirstUp size slots image) (λ image. NearlyOnlyFirstUp size slots old.image → NearlyOnlyFirstUp size slots image) second
+    (Leaves-weaker mid new (λ image. NearlyOnlyFirstUp size slots mid.image → NearlyOnlyFirstUp size slots image)
+    (λ image. NearlyOnlyFirstUp size slots old.image → NearlyOnlyFirstUp size slots image) second
     (λ image stays nearly. stays (Leaves-exit old mid (λ x. NearlyOnlyFirstUp size slots old.image → NearlyOnlyFirstUp size slots x) first nearly)))
 
 pub ChangesFew-then : (size slots : ℕ) (old mid new : FlashState) → CountsCopies size slots old mid → ChangesFew size slots mid new → ChangesFew size slots old new
@@ -328,7 +332,8 @@ AreSlots-below test slots free is = subst (λ (xs : List ℕ). AreSlots slots xs
 })
 
 -- what both passes leave, from another word for the flash at the start
-pub IsRecovered-settled : (size slots : ℕ) (old mid new : FlashState) (listed found : Found) → 65 ≤ size → length old.told.image ≡ size * slots → length new.told.image ≡ size * slots → mid.told ≡ old.told → mid.steps ≡ old.steps
+pub IsRecovered-settled : (size slots : ℕ) (old mid new : FlashState) (listed found : Found) → 65 ≤ size → length old.told.image ≡ size * slots →
+    length new.told.image ≡ size * slots → mid.told ≡ old.told → mid.steps ≡ old.steps
     → found.ids ≡ listed.ids → found.places ≡ listed.places → length listed.places.items ≡ length listed.ids.items
     → found.free.items ≡ list_below (λ slot. not (list_any (λ place. takes (size - 64) place slot) listed.places.items)) slots
     → AreListed (entry_at size slots old.told.image) slots listed.ids.items listed.places.items

@@ -30,7 +30,8 @@ use Rattle.record_store.specs.declared.errors.StoreError.{StoreError}
 use Rattle.record_store.specs.declared.errors.StoreError.TheVariants.{NoSpace, LastGeneration, NotFound, Empty, Flash, Small}
 use Rattle.record_store.specs.declared.work.Begun.{Begun}
 use Rattle.record_store.specs.declared.work.Begun.TheVariants as works
-use Rattle.record_store.proofs.StartLemmas.{planned_draft, planned_takes, planned_stands, planned_generation, planned_replaces, planned_newest, planned_taken, first_made, refused_no_space, refused_at_last}
+use Rattle.record_store.proofs.StartLemmas.{planned_draft, planned_takes, planned_stands, planned_generation, planned_replaces, planned_newest, planned_taken}
+use Rattle.record_store.proofs.StartLemmas.{first_made, refused_no_space, refused_at_last}
 use Rattle.record_store.proofs.FaultLemmas.{ends_refused, ends_read, ends_read_failed}
 use Rattle.record_store.proofs.StoreLemmas.{idle_work, ready_inside, looks_ready, starts_by}
 
@@ -144,10 +145,12 @@ module _ (tells : Type 0) (geometry : Geometry) (flash : FlashState) (found : Fo
       let takes = planned_takes tells geometry found flash.told.image (length bytes) draft replaced planned begins.of_len begins.least begins.most in
       let entry = entry_at geometry.slot_size geometry.slots flash.told.image in
       let free : slots_in draft ≡ take (parts_of (geometry.slot_size - 64) (length bytes)) (free_slots entry geometry.slots) =
-      takes.1 ∙ ap (λ (n : ℕ). take n found.free.items) (planned.parts ∙ ap (parts_of (geometry.slot_size - 64)) begins.of_len) ∙ ap (take (parts_of (geometry.slot_size - 64) (length bytes))) known.list.free in
+      takes.1 ∙ ap (λ (n : ℕ). take n found.free.items) (planned.parts ∙ ap (parts_of (geometry.slot_size - 64)) begins.of_len)
+      ∙ ap (take (parts_of (geometry.slot_size - 64) (length bytes))) known.list.free in
       let here : slots_in draft ≡ slots_for (view_of geometry new doubt Idle) (length bytes) =
       free ∙ ap (take (parts_of (geometry.slot_size - 64) (length bytes))) (sym (free_slots-only geometry.slot_size geometry.slots flash.told.image known.only))
-      ∙ ap (λ (t : Told). take (parts_of (geometry.slot_size - 64) (length bytes)) (free_slots (first_records (entry_at geometry.slot_size geometry.slots t.image) geometry.slots) geometry.slots)) (sym (same told)) in
+      ∙ ap (λ (t : Told). take (parts_of (geometry.slot_size - 64) (length bytes))
+      (free_slots (first_records (entry_at geometry.slot_size geometry.slots t.image) geometry.slots) geometry.slots)) (sym (same told)) in
       subst (λ (u : StoreView). StartsWrite u (view_of geometry new doubt (pending_of (layout_of geometry) written (works.Write draft stage replaced))) id bytes (Ok x)) is (
         subst (λ (n : ℕ). refusal_of (layout_of geometry) (Write n bytes) (records_of (layout_of geometry) flash.told.image) ≡ None) begins.of_id
             (planned_taken tells geometry found flash.told.image bytes draft replaced planned begins.of_len store.listing known (sized told)),
@@ -165,7 +168,8 @@ begun_starts tells geometry flash new doubt pending later v count plan x is read
     subst_starts (starts_by tells (view_of geometry flash doubt pending) (view_of geometry flash doubt pending) (view_of geometry new doubt later) x (Ok x)
     (looks_ready tells (view_of geometry flash doubt pending) x (record { certain = ap (λ (u : StoreView). u.in_doubt) is ∙ ready.certain; idle = ap (λ (u : StoreView). u.pending) is ∙ ready.idle }))
     reads.told reads.steps reads.power (record { layout = refl; size = reads.size; sector_size = reads.sector_size }) (ap (λ (u : StoreView). u.in_doubt) is ∙ ready.certain) reads.cause.ok
-    (λ told. reads.steps ∙ (looks_ready {T = Unit {0}} tells (view_of geometry flash doubt pending) x (record { certain = ap (λ (u : StoreView). u.in_doubt) is ∙ ready.certain; idle = ap (λ (u : StoreView). u.pending) is ∙ ready.idle })).ended told)
+    (λ told. reads.steps ∙ (looks_ready {T = Unit {0}} tells (view_of geometry flash doubt pending) x
+    (record { certain = ap (λ (u : StoreView). u.in_doubt) is ∙ ready.certain; idle = ap (λ (u : StoreView). u.pending) is ∙ ready.idle })).ended told)
     (ends_read tells count flash new plan x reads))
   where
     subst_starts : OnlyStarts tells (view_of geometry flash doubt pending) (view_of geometry new doubt later) (Ok x) → OnlyStarts tells v (view_of geometry new doubt later) (Ok x)
@@ -177,7 +181,8 @@ pub record RefusedStart (tells : Type 0) (count : Unit {0} → ℕ) (v new : Sto
   pub still : ReadsExactly {T = Unit {0}} tells count v new (Err error)
   pub leaves : OnlyStarts tells v new (Err error)
 
-same_view : (geometry : Geometry) (flash new : FlashState) (doubt : Bool) (pending : Pending) (v : StoreView) → view_of geometry flash doubt pending ≡ v → IsReady v → new ≡ flash → view_of geometry new false pending ≡ v
+same_view : (geometry : Geometry) (flash new : FlashState) (doubt : Bool) (pending : Pending) (v : StoreView) → view_of geometry flash doubt pending ≡ v →
+    IsReady v → new ≡ flash → view_of geometry new false pending ≡ v
 same_view geometry flash new doubt pending v is ready same =
     ap (λ (f : FlashState). view_of geometry f false pending) same
     ∙ ap (λ (b : Bool). view_of geometry flash b pending) (sym (ap (λ (u : StoreView). u.in_doubt) is ∙ ready.certain)) ∙ is
@@ -204,7 +209,8 @@ refused_by_lists tells count v id bytes error ready other answer still ended dou
       };
     }
 
-pub refused_start : (tells : Type 0) (count : Unit {0} → ℕ) (reads : ℕ) (geometry : Geometry) (flash new : FlashState) (found : Found) (buffer : List ℕ) (doubt : Bool) (work : Begun) (v : StoreView) (id : ℕ) (bytes : List ℕ)
+pub refused_start : (tells : Type 0) (count : Unit {0} → ℕ) (reads : ℕ) (geometry : Geometry) (flash new : FlashState) (found : Found) (buffer : List ℕ)
+    (doubt : Bool) (work : Begun) (v : StoreView) (id : ℕ) (bytes : List ℕ)
     (error : StoreError) (T : Type 0) → IsStore tells geometry flash found buffer doubt work → view_of geometry flash doubt (pending_of (layout_of geometry) buffer work) ≡ v → IsReady v
     → (tells → length flash.told.image ≡ geometry.slot_size * geometry.slots) → IsRefusedBy geometry found id (length bytes) error
     → ReadsToPlan {T = T} tells reads flash new (Err error)

@@ -30,7 +30,8 @@ ends_refused old new x Flash other had = absurd (other refl)
 ends_refused old new x (Small need) other had = record { once = tt; lit = had.lit; same_power = had.same_power; later = had.later }
 
 -- one call after another
-pub ends_then : {T U : Type 0} (old mid new : FlashState) (x : T) (y : Result U StoreError) → mid.faults ≡ old.faults → EndsAtFault {T = T} old mid (Ok x) → EndsAtFault {T = U} mid new y → EndsAtFault {T = U} old new y
+pub ends_then : {T U : Type 0} (old mid new : FlashState) (x : T) (y : Result U StoreError) → mid.faults ≡ old.faults → EndsAtFault {T = T} old mid (Ok x) →
+    EndsAtFault {T = U} mid new y → EndsAtFault {T = U} old new y
 ends_then {T} {U} old mid new x y same first second = record {
   once = subst (λ (n : ℕ). ByFault {T = U} y (new.faults ≡ next_count n) (Unit {0})) same second.once;
   lit = lit_then old mid new first.same_power first.lit second.lit;

@@ -11,7 +11,8 @@ use Rattle.record_model.specs.Records.{Stored}
 use Rattle.record_model.specs.RecordMap.{Command, Write, Clear, Refusal, Failed, NoSpace as no_space, NotFound as not_found, refusal_of, after, changes_of, made_by}
 use Rattle.record_model.proofs.MapLemmas.{after-done}
 use Rattle.record_model.proofs.RefusalLemmas.{changes_of-refused, changes_of-new, changes_of-over, changes_of-clear}
-use Rattle.record_store.specs.Store.{StoreView, Pending, Idle, Writing, Clearing, stored, records_of, map_after, pending_after, changes_before_gate, changes_in_all, StandsIn, slots_for, PlacedAfter, KeepsOrMakes, KeepsMap, DividesAlike, IsInDoubt, IsReady}
+use Rattle.record_store.specs.Store.{StoreView, Pending, Idle, Writing, Clearing, stored, records_of, map_after, pending_after, changes_before_gate}
+use Rattle.record_store.specs.Store.{changes_in_all, StandsIn, slots_for, PlacedAfter, KeepsOrMakes, KeepsMap, DividesAlike, IsInDoubt, IsReady}
 use Rattle.record_store.specs.Answers.{FailsByFlash, AnswersWrite, AnswersClear, RefusesWrite, RefusesClear, HasFaultsOf, EndsAtFault, StartsWrite, StartsClear, TakesReads, copies_of, ByFault}
 use Rattle.record_store.specs.Calls.{OnlyStarts, Changes}
 use Rattle.record_store.specs.declared.errors.StoreError.{StoreError}
@@ -65,7 +66,8 @@ module _ (layout : Layout) (id made : ℕ) (bytes slots : List ℕ) (replaces : 
       ∙ sym (ap (λ (t : Bool). cond t (made_by (Write id bytes) stored) stored) tests.now)
 
 end_writing : (layout : Layout) (id made : ℕ) (bytes slots : List ℕ) (replaces : Bool) (stored : Stored) → made < changes_in_all layout bytes replaces
-    → map_at_end layout (pending_after layout (Writing id bytes slots replaces made)) (map_after layout (Writing id bytes slots replaces made) stored) ≡ map_at_end layout (Writing id bytes slots replaces made) stored
+    → map_at_end layout (pending_after layout (Writing id bytes slots replaces made)) (map_after layout (Writing id bytes slots replaces made) stored)
+    ≡ map_at_end layout (Writing id bytes slots replaces made) stored
 end_writing layout id made bytes slots true stored few = elim (cases_lt made (changes_before_gate layout bytes)) [
   | inl low ↦
       let tests = tests_early made (changes_before_gate layout bytes) (changes_in_all layout bytes true) low (omega arith) in
@@ -112,9 +114,11 @@ step_left : (layout : Layout) (pending : Pending) → IsUnfinished layout pendin
 step_left layout Idle some = absurd some
 step_left layout (Writing id bytes slots replaces made) some = elim (cases_eq (made + 1) (changes_in_all layout bytes replaces)) [
   | inl last ↦
-      ap (λ (t : Bool). changes_left layout (cond t Idle (Writing id bytes slots replaces (made + 1))) + 1) (eq-eqb (made + 1) (changes_in_all layout bytes replaces) last) ∙ one (changes_in_all layout bytes replaces) last
+      ap (λ (t : Bool). changes_left layout (cond t Idle (Writing id bytes slots replaces (made + 1))) + 1)
+      (eq-eqb (made + 1) (changes_in_all layout bytes replaces) last) ∙ one (changes_in_all layout bytes replaces) last
   | inr apart ↦
-      ap (λ (t : Bool). changes_left layout (cond t Idle (Writing id bytes slots replaces (made + 1))) + 1) (ne_eqb (made + 1) (changes_in_all layout bytes replaces) apart) ∙ less (changes_in_all layout bytes replaces) some apart
+      ap (λ (t : Bool). changes_left layout (cond t Idle (Writing id bytes slots replaces (made + 1))) + 1)
+      (ne_eqb (made + 1) (changes_in_all layout bytes replaces) apart) ∙ less (changes_in_all layout bytes replaces) some apart
 ]
   where
     one : (all : ℕ) → made + 1 ≡ all → 0 + 1 ≡ all - made
@@ -148,7 +152,8 @@ step_places layout (Writing id bytes slots replaces made) some goes_on image at_
 step_places layout (Clearing id) some goes_on image at_end = tt
 
 -- after the last change it is there
-last_placed : (layout : Layout) (pending : Pending) (image : List ℕ) → IsUnfinished layout pending → pending_after layout pending ≡ Idle → PlacedAfter layout pending image → PlacedAtEnd layout pending image
+last_placed : (layout : Layout) (pending : Pending) (image : List ℕ) → IsUnfinished layout pending → pending_after layout pending ≡ Idle →
+    PlacedAfter layout pending image → PlacedAtEnd layout pending image
 last_placed layout Idle image some ends placed = tt
 last_placed layout (Writing id bytes slots replaces made) image some ends placed = elim (cases_eq (made + 1) (changes_in_all layout bytes replaces)) [
   | inl last ↦ placed (behind replaces last)
@@ -322,7 +327,8 @@ refused_steps old new command refusal refused same =
     omega arith
 
 -- a write that is taken makes as many changes as are left once it has begun
-write_steps : (old mid : StoreView) (id : ℕ) (bytes slots : List ℕ) (kept : Option (List ℕ × ℕ)) → mid.layout ≡ old.layout → get (stored old) id ≡ kept → mid.pending ≡ Writing id bytes slots (is_some kept) 0
+write_steps : (old mid : StoreView) (id : ℕ) (bytes slots : List ℕ) (kept : Option (List ℕ × ℕ)) → mid.layout ≡ old.layout → get (stored old) id ≡ kept →
+    mid.pending ≡ Writing id bytes slots (is_some kept) 0
     → refusal_of old.layout (Write id bytes) (stored old) ≡ None → changes_left mid.layout mid.pending ≡ changes_of old.layout (Write id bytes) (stored old)
 write_steps old mid id bytes slots kept equivalent is pending taken =
     ap (changes_left mid.layout) pending ∙ ap (λ (l : Layout). changes_left l (Writing id bytes slots (is_some kept) 0)) equivalent ∙ by_kept kept is
@@ -340,7 +346,8 @@ clear_steps old mid id pending taken = ap (changes_left mid.layout) pending ∙ 
 finish_cause : (before mid after : ℕ) (result : Result (Unit {0}) StoreError) → FailsByFlash result → mid ≡ before → HasFaultsOf mid after result → HasFaultsOf before after result
 finish_cause before mid after result fails same cause = subst (λ (n : ℕ). HasFaultsOf n after result) same cause
 
-changes_begun : (tells : Type 0) (old mid new : StoreView) (command : Command) (x : Unit {0}) (result : Result (Unit {0}) StoreError) → OnlyStarts tells old mid (Ok x) → IsFinished tells mid new result
+changes_begun : (tells : Type 0) (old mid new : StoreView) (command : Command) (x : Unit {0}) (result : Result (Unit {0}) StoreError) →
+    OnlyStarts tells old mid (Ok x) → IsFinished tells mid new result
     → (tells → map_at_end mid.layout mid.pending (stored mid) ≡ after old.layout command (stored old))
     → (tells → changes_left mid.layout mid.pending ≡ changes_of old.layout command (stored old)) → Changes tells old new command result
 changes_begun tells old mid new command x result starts finished end left = let over = finished.over in record {
@@ -348,11 +355,14 @@ changes_begun tells old mid new command x result starts finished end left = let 
       begun_then old mid new (after old.layout command (stored old)) (map_at_end mid.layout mid.pending (stored mid)) (starts.kept told) starts.equivalent (end told) (finished.crash told);
   steps = λ told.
       unless_flash result (new.flash.steps ≡ old.flash.steps + (copies_of old + changes_of old.layout command (stored old))) finished.error
-      (on_ok_weaker result (λ took. in_all mid.flash.steps new.flash.steps old.flash.steps (copies_of old) (changes_left mid.layout mid.pending) (changes_of old.layout command (stored old)) (starts.ended told) took (left told))
+      (on_ok_weaker result (λ took. in_all mid.flash.steps new.flash.steps old.flash.steps (copies_of old) (changes_left mid.layout mid.pending)
+      (changes_of old.layout command (stored old)) (starts.ended told) took (left told))
       finished.steps);
-  few = λ told. few_in_all mid.flash.steps new.flash.steps old.flash.steps (changes_left mid.layout mid.pending) (changes_of old.layout command (stored old)) (starts.few told) finished.at_most (left told);
+  few = λ told. few_in_all mid.flash.steps new.flash.steps old.flash.steps (changes_left mid.layout mid.pending) (changes_of old.layout command (stored old))
+      (starts.few told) finished.at_most (left told);
   at_most = λ told.
-      at_most_in_all mid.flash.steps new.flash.steps old.flash.steps (copies_of old) (changes_left mid.layout mid.pending) (changes_of old.layout command (stored old)) (starts.at_most told) finished.at_most (left told);
+      at_most_in_all mid.flash.steps new.flash.steps old.flash.steps (copies_of old) (changes_left mid.layout mid.pending)
+      (changes_of old.layout command (stored old)) (starts.at_most told) finished.at_most (left told);
   over = record {
     doubt = over.doubt;
     idle = over.idle;
@@ -401,7 +411,8 @@ write_refused tells old new id bytes (Small need) starts answer = changes_refuse
 pub clear_refused : (tells : Type 0) (old new : StoreView) (id : ℕ) (error : StoreError) → OnlyStarts tells old new (Err error)
     → (tells → RefusesClear old new id error) → Changes tells old new (Clear id) (Err error)
 clear_refused tells old new id (NoSpace free) starts answer = changes_refused tells old new (Clear id) (NoSpace free) starts (λ told. absurd (answer told)) starts.doubt starts.doubt.idle
-clear_refused tells old new id (LastGeneration number) starts answer = changes_refused tells old new (Clear id) (LastGeneration number) starts (λ told. absurd (answer told)) starts.doubt starts.doubt.idle
+clear_refused tells old new id (LastGeneration number) starts answer = changes_refused tells old new (Clear id) (LastGeneration number) starts
+    (λ told. absurd (answer told)) starts.doubt starts.doubt.idle
 clear_refused tells old new id NotFound starts answer =
     changes_refused tells old new (Clear id) NotFound starts
     (λ told. refused_steps old new (Clear id) not_found (answer told).0 (starts.ended told)) starts.doubt starts.doubt.idle

@@ -1,5 +1,6 @@
 -- The list of free slots, as slots join it or leave it.
-use Rattle.std.proofs.Common.{◌≡◌, ◌⊎◌, ℕ, zero, suc, ◌+◌, ◌<◌, ◌≤◌, Bool, true, false, not, List, [], ◌∷◌, ◌++◌, length, take, get_or, Option, Result, Ok, Err, refl, sym, ap, subst, ◌∙◌, arith, inl, inr}
+use Rattle.std.proofs.Common.{◌≡◌, ◌⊎◌, ℕ, zero, suc, ◌+◌, ◌<◌, ◌≤◌, Bool, true, false, not, List, [], ◌∷◌, ◌++◌, length, take, get_or, Option, Result, Ok, Err}
+use Rattle.std.proofs.Common.{refl, sym, ap, subst, ◌∙◌, arith, inl, inr}
 use Rattle.std.specs.Prelude.{insert, OnOk, OnErr, ◌==◌, ◌||◌, ◌&&◌}
 use Rattle.std.specs.List.{list_any}
 use Rattle.std.specs.Ordering.{nat_cmp}
@@ -95,7 +96,8 @@ pub record IsJoined (slots slot : ℕ) (old after : List ℕ) : Type 0 where
   pub gains : Gains old after (slot ∷ [])
   pub free : AreSlots slots after
 
-pub joined_at : {E : Type 0} (slots room at slot : ℕ) (old after : List ℕ) (put : Result (Unit {0}) E) → AreSlots slots old → slot < slots → slots ≤ room → IsBinarySearchResult (λ y. nat_cmp y slot) old (Err at)
+pub joined_at : {E : Type 0} (slots room at slot : ℕ) (old after : List ℕ) (put : Result (Unit {0}) E) → AreSlots slots old → slot < slots → slots ≤ room →
+    IsBinarySearchResult (λ y. nat_cmp y slot) old (Err at)
     → OnErr put (room ≤ length old) → OnOk put (after ≡ insert old at slot) → IsJoined slots slot old after
 joined_at slots room at slot old after put had low large position full is =
     let place = searched old slot (Err at) position (λ i j h l. rising_le old had.rising i j h l) in

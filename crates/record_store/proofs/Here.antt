@@ -20,11 +20,13 @@ pub behind : (ys : List ℕ) (i : ℕ) → get_or (drop 1 ys) i 0 ≡ get_or ys 
 behind [] i = refl
 behind (y ∷ ys) i = refl
 
-pub target_slot : (geometry : Geometry) (draft : Draft) (body : List ℕ) (number : ℕ) → number < draft.parts → (target_of (layout_of geometry) (plan_of draft body) number).slot ≡ get_or draft.slots number 0
+pub target_slot : (geometry : Geometry) (draft : Draft) (body : List ℕ) (number : ℕ) → number < draft.parts →
+    (target_of (layout_of geometry) (plan_of draft body) number).slot ≡ get_or draft.slots number 0
 target_slot geometry draft body zero h = refl
 target_slot geometry draft body (suc n) h = get_or-take (draft.parts - 1) (drop 1 draft.slots) n 0 (omega arith) ∙ behind draft.slots n
 
-pub target_len : (geometry : Geometry) (draft : Draft) (body : List ℕ) (number : ℕ) → length (target_of (layout_of geometry) (plan_of draft body) number).bytes ≡ part_len (geometry.slot_size - 64) (length body) number
+pub target_len : (geometry : Geometry) (draft : Draft) (body : List ℕ) (number : ℕ) → length (target_of (layout_of geometry) (plan_of draft body) number).bytes
+    ≡ part_len (geometry.slot_size - 64) (length body) number
 target_len geometry draft body zero = length-first (geometry.slot_size - 64) body
 target_len geometry draft body (suc n) = length-bytes (geometry.slot_size - 64) (suc n) body
 
@@ -69,7 +71,8 @@ four_of (a ∷ b ∷ c ∷ d ∷ []) e = refl
 four_of (a ∷ b ∷ c ∷ d ∷ f ∷ rest) e = absurd (omega arith)
 
 pub names_first : (slots : List ℕ) (parts : ℕ) → length slots ≡ 4 → 1 ≤ parts → parts ≤ 4
-    → (cond (nat_lt 1 parts) (get_or slots 1 0) 0xFFFF ∷ cond (nat_lt 2 parts) (get_or slots 2 0) 0xFFFF ∷ cond (nat_lt 3 parts) (get_or slots 3 0) 0xFFFF ∷ []) ≡ named (take (parts - 1) (drop 1 slots))
+    → (cond (nat_lt 1 parts) (get_or slots 1 0) 0xFFFF ∷ cond (nat_lt 2 parts) (get_or slots 2 0) 0xFFFF ∷ cond (nat_lt 3 parts) (get_or slots 3 0) 0xFFFF ∷ [])
+    ≡ named (take (parts - 1) (drop 1 slots))
 names_first slots parts long some few =
     three (get_or slots 1 0) (get_or slots 2 0) (get_or slots 3 0) parts some few ∙ ap (λ (xs : List ℕ). named (take (parts - 1) xs)) (sym (four_of slots long))
 
@@ -79,7 +82,8 @@ erased_here image slot target size inner n is blank fits =
     subst (λ (k : ℕ). IsErased image (k * size + inner) n) is (IsErased-within image (target * size) size (target * size + inner) n blank (omega arith) (omega arith))
 
 -- what of the slot of a part is not programmed yet
-pub rest_here : (image : List ℕ) (slot size : ℕ) (target : Target) (count inner n : ℕ) → target.slot ≡ slot → IsBegun size target count image → 32 + count ≤ inner → inner + n ≤ size → IsErased image (slot * size + inner) n
+pub rest_here : (image : List ℕ) (slot size : ℕ) (target : Target) (count inner n : ℕ) → target.slot ≡ slot → IsBegun size target count image →
+    32 + count ≤ inner → inner + n ≤ size → IsErased image (slot * size + inner) n
 rest_here image slot size target count inner n is begun low fits =
     subst (λ (k : ℕ). IsErased image (k * size + inner) n) is
     (IsErased-within image (target.slot * size + 32 + count) (size - 32 - count) (target.slot * size + inner) n begun.rest (omega arith) (omega arith))
@@ -97,7 +101,8 @@ pub cut_piece : (geometry : Geometry) (draft : Draft) (body : List ℕ) (number 
 cut_piece geometry draft body number piece room len count long is_room is_len is_count some =
     let target : length (target_of (layout_of geometry) (plan_of draft body) number).bytes ≡ part_len (geometry.slot_size - 64) (length body) number = target_len geometry draft body number in
     let same : part_len (geometry.slot_size - 64) (length body) number ≡ part_len (geometry.slot_size - 64) draft.len number = ap (λ (n : ℕ). part_len (geometry.slot_size - 64) n number) long in
-    let ends : number * (geometry.slot_size - 64) + part_len (geometry.slot_size - 64) (length body) number ≤ length body = part_end (geometry.slot_size - 64) (length body) number (256 * piece) (omega arith) in
+    let ends : number * (geometry.slot_size - 64) + part_len (geometry.slot_size - 64) (length body) number ≤ length body =
+    part_end (geometry.slot_size - 64) (length body) number (256 * piece) (omega arith) in
     let start : number * room ≡ number * (geometry.slot_size - 64) = ap (λ (k : ℕ). number * k) is_room in
     let counted : count ≡ min 256 (length (target_of (layout_of geometry) (plan_of draft body) number).bytes - 256 * piece) = omega arith in
     let left : number * room + 256 * piece + count - (number * room + 256 * piece) ≡ count = omega arith in

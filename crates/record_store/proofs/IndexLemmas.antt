@@ -68,7 +68,8 @@ AreListed-put slots size old new id place entry other e low has of index put had
         let newer' : (get_or old.places.items again.at place).generation < e.generation = omega arith in
         subst (λ (ids : List ℕ). AreListed other slots ids new.places.items) (sym again.ids)
         (subst (λ (places : List SlotOf). AreListed other slots old.ids.items places)
-        (sym (again.places place ∙ ap (λ (b : Bool). cond b (set old.places.items again.at place) old.places.items) (lt-ltb (get_or old.places.items again.at place).generation place.generation newer)))
+        (sym (again.places place ∙ ap (λ (b : Bool). cond b (set old.places.items again.at place) old.places.items)
+        (lt-ltb (get_or old.places.items again.at place).generation place.generation newer)))
         (AreListed-replaced entry other slots place.slot old.ids.items old.places.items again.at place place e low has.same has.free has.here (place_in id place e of)
         index.rising index.paired again.within (again.here ∙ sym of.of_id) newer' had))
 

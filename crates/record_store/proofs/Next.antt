@@ -25,7 +25,8 @@ part_some room len number some least h =
     let next : (number + 1) * room ≡ number * room + 1 * room = add-mul number 1 room in
     omega arith
 
-pub bytes_some : (geometry : Geometry) (draft : Draft) (body : List ℕ) (number : ℕ) → IsDraft geometry draft body → number < draft.parts → 256 * 0 < length (target_of (layout_of geometry) (plan_of draft body) number).bytes
+pub bytes_some : (geometry : Geometry) (draft : Draft) (body : List ℕ) (number : ℕ) → IsDraft geometry draft body → number < draft.parts →
+    256 * 0 < length (target_of (layout_of geometry) (plan_of draft body) number).bytes
 bytes_some geometry draft body number is h =
     let large : 512 ≤ geometry.slot_size = geometry.least_slot in
     let least : 128 ≤ length body = is.plan.names.least in
@@ -46,7 +47,8 @@ by_choice : (P : Stage → Type 0) (b : Bool) (one other : Stage) → (b ≡ tru
 by_choice P true one other first second = first refl
 by_choice P false one other first second = second refl
 
-form_last : (geometry : Geometry) (draft : Draft) (body : List ℕ) (number : ℕ) → IsDraft geometry draft body → number < draft.parts → HasForm geometry draft body (after_part (plan_of draft body) number)
+form_last : (geometry : Geometry) (draft : Draft) (body : List ℕ) (number : ℕ) → IsDraft geometry draft body → number < draft.parts →
+    HasForm geometry draft body (after_part (plan_of draft body) number)
 form_last geometry draft body zero is h = tt
 form_last geometry draft body (suc n) is h =
     let long : 1 + length (take (draft.parts - 1) (drop 1 draft.slots)) ≡ draft.parts = further_len geometry draft body is in
@@ -55,14 +57,18 @@ form_last geometry draft body (suc n) is h =
     (λ all. form_first geometry draft body 0 _ (omega arith))
 
 pub next_form : (geometry : Geometry) (draft : Draft) (body : List ℕ) (number : ℕ) (step : Step) → IsDraft geometry draft body → number < draft.parts
-    → IsStep (layout_of geometry) (length (target_of (layout_of geometry) (plan_of draft body) number).bytes) step → HasForm geometry draft body (stage_after (layout_of geometry) (plan_of draft body) number step)
+    → IsStep (layout_of geometry) (length (target_of (layout_of geometry) (plan_of draft body) number).bytes) step →
+    HasForm geometry draft body (stage_after (layout_of geometry) (plan_of draft body) number step)
 next_form geometry draft body number (EraseFromHead done) is h form =
-    by_choice (HasForm geometry draft body) (nat_lt (done + 1) geometry.per_slot) (Fill number (EraseFromHead (done + 1))) (Fill number PutHead) (λ more. (h, ltb-true (done + 1) geometry.per_slot more)) (λ all. (h, tt))
+    by_choice (HasForm geometry draft body) (nat_lt (done + 1) geometry.per_slot) (Fill number (EraseFromHead (done + 1))) (Fill number PutHead)
+    (λ more. (h, ltb-true (done + 1) geometry.per_slot more)) (λ all. (h, tt))
 next_form geometry draft body number (EraseFromTail done) is h form =
-    by_choice (HasForm geometry draft body) (nat_lt (done + 1) geometry.per_slot) (Fill number (EraseFromTail (done + 1))) (Fill number PutHead) (λ more. (h, ltb-true (done + 1) geometry.per_slot more)) (λ all. (h, tt))
+    by_choice (HasForm geometry draft body) (nat_lt (done + 1) geometry.per_slot) (Fill number (EraseFromTail (done + 1))) (Fill number PutHead)
+    (λ more. (h, ltb-true (done + 1) geometry.per_slot more)) (λ all. (h, tt))
 next_form geometry draft body number PutHead is h form = (h, bytes_some geometry draft body number is h)
 next_form geometry draft body number (Piece piece) is h form =
-    by_choice (HasForm geometry draft body) (nat_lt (256 * (piece + 1)) (length (target_of (layout_of geometry) (plan_of draft body) number).bytes)) (Fill number (Piece (piece + 1))) (Fill number TailMark)
+    by_choice (HasForm geometry draft body) (nat_lt (256 * (piece + 1)) (length (target_of (layout_of geometry) (plan_of draft body) number).bytes))
+    (Fill number (Piece (piece + 1))) (Fill number TailMark)
     (λ more. (h, ltb-true (256 * (piece + 1)) _ more)) (λ all. (h, tt))
 next_form geometry draft body number TailMark is h form = form_last geometry draft body number is h
 
@@ -97,14 +103,16 @@ mark_is geometry draft body i is slots marks h =
 
 -- the stage after the last change of a slot
 pub last_is : (geometry : Geometry) (draft : Draft) (body : List ℕ) (number : ℕ) → IsDraft geometry draft body → length draft.slots ≡ 4 → length draft.marked ≡ 4 → number < draft.parts
-    → cond {A = Stage} (number == 0) Gate (cond (nat_lt (number + 1) draft.parts) (Fill (number + 1) (first_step (get_or draft.marked (number + 1) false))) (Fill 0 (first_step (get_or draft.marked 0 false))))
+    → cond {A = Stage} (number == 0) Gate (cond (nat_lt (number + 1) draft.parts) (Fill (number + 1) (first_step (get_or draft.marked (number + 1) false)))
+    (Fill 0 (first_step (get_or draft.marked 0 false))))
     ≡ after_part (plan_of draft body) number
 last_is geometry draft body zero is slots marks h = refl
 last_is geometry draft body (suc n) is slots marks h =
     let further = take (draft.parts - 1) (drop 1 draft.slots) in
     let long : 1 + length further ≡ draft.parts = further_len geometry draft body is in
     let two : suc n + 1 ≡ suc (suc n) = omega arith in
-    cond-false {A = Stage} (suc n == 0) Gate (cond (nat_lt (suc n + 1) draft.parts) (Fill (suc n + 1) (first_step (get_or draft.marked (suc n + 1) false))) (Fill 0 (first_step (get_or draft.marked 0 false)))) (ne_eqb (suc n) 0 (λ e. absurd (omega arith)))
+    cond-false {A = Stage} (suc n == 0) Gate (cond (nat_lt (suc n + 1) draft.parts) (Fill (suc n + 1) (first_step (get_or draft.marked (suc n + 1) false)))
+    (Fill 0 (first_step (get_or draft.marked 0 false)))) (ne_eqb (suc n) 0 (λ e. absurd (omega arith)))
     ∙ elim (cases_lt (suc n + 1) draft.parts) [
       | inl more ↦
           let low : suc n < length further = omega arith in
@@ -112,20 +120,27 @@ last_is geometry draft body (suc n) is slots marks h =
           get_or-take (draft.parts - 1) (drop 1 draft.slots) (suc n) 0 (omega arith) ∙ behind draft.slots (suc n) ∙ ap (λ (k : ℕ). get_or draft.slots k 0) (sym two) in
           let mark : get_or draft.marked (suc n + 1) false ≡ marked_in draft.slots draft.marked (get_or further (suc n) 0) =
           mark_is geometry draft body (suc n + 1) is slots marks more ∙ ap (marked_in draft.slots draft.marked) (sym here) in
-          cond-true {A = Stage} (nat_lt (suc n + 1) draft.parts) (Fill (suc n + 1) (first_step (get_or draft.marked (suc n + 1) false))) (Fill 0 (first_step (get_or draft.marked 0 false))) (lt-ltb (suc n + 1) draft.parts more)
+          cond-true {A = Stage} (nat_lt (suc n + 1) draft.parts) (Fill (suc n + 1) (first_step (get_or draft.marked (suc n + 1) false)))
+          (Fill 0 (first_step (get_or draft.marked 0 false))) (lt-ltb (suc n + 1) draft.parts more)
           ∙ (λ i. Fill (two i) (first_step (mark i)))
-          ∙ sym (cond-true {A = Stage} (nat_lt (suc n) (length further)) (Fill (suc (suc n)) (first_step (marked_in draft.slots draft.marked (get_or further (suc n) 0)))) (Fill 0 (first_step (marked_in draft.slots draft.marked (get_or draft.slots 0 0)))) (lt-ltb (suc n) (length further) low))
+          ∙ sym (cond-true {A = Stage} (nat_lt (suc n) (length further))
+          (Fill (suc (suc n)) (first_step (marked_in draft.slots draft.marked (get_or further (suc n) 0))))
+          (Fill 0 (first_step (marked_in draft.slots draft.marked (get_or draft.slots 0 0)))) (lt-ltb (suc n) (length further) low))
       | inr all ↦
           let past : length further ≤ suc n = omega arith in
           let mark : get_or draft.marked 0 false ≡ marked_in draft.slots draft.marked (get_or draft.slots 0 0) = mark_is geometry draft body 0 is slots marks (omega arith) in
-          cond-false {A = Stage} (nat_lt (suc n + 1) draft.parts) (Fill (suc n + 1) (first_step (get_or draft.marked (suc n + 1) false))) (Fill 0 (first_step (get_or draft.marked 0 false))) (le-ltb (suc n + 1) draft.parts all)
+          cond-false {A = Stage} (nat_lt (suc n + 1) draft.parts) (Fill (suc n + 1) (first_step (get_or draft.marked (suc n + 1) false)))
+          (Fill 0 (first_step (get_or draft.marked 0 false))) (le-ltb (suc n + 1) draft.parts all)
           ∙ (λ i. Fill 0 (first_step (mark i)))
-          ∙ sym (cond-false {A = Stage} (nat_lt (suc n) (length further)) (Fill (suc (suc n)) (first_step (marked_in draft.slots draft.marked (get_or further (suc n) 0)))) (Fill 0 (first_step (marked_in draft.slots draft.marked (get_or draft.slots 0 0)))) (le-ltb (suc n) (length further) past))
+          ∙ sym (cond-false {A = Stage} (nat_lt (suc n) (length further))
+          (Fill (suc (suc n)) (first_step (marked_in draft.slots draft.marked (get_or further (suc n) 0))))
+          (Fill 0 (first_step (marked_in draft.slots draft.marked (get_or draft.slots 0 0)))) (le-ltb (suc n) (length further) past))
     ]
 
 -- the stage after a piece, by the length of the part
 pub piece_next : (number piece len other : ℕ) → len ≡ other
-    → cond {A = Stage} (nat_lt (256 * (piece + 1)) len) (Fill number (Piece (piece + 1))) (Fill number TailMark) ≡ cond (nat_lt (256 * (piece + 1)) other) (Fill number (Piece (piece + 1))) (Fill number TailMark)
+    → cond {A = Stage} (nat_lt (256 * (piece + 1)) len) (Fill number (Piece (piece + 1))) (Fill number TailMark) ≡ cond (nat_lt (256 * (piece + 1)) other)
+    (Fill number (Piece (piece + 1))) (Fill number TailMark)
 piece_next number piece len other same = ap (λ (n : ℕ). cond {A = Stage} (nat_lt (256 * (piece + 1)) n) (Fill number (Piece (piece + 1))) (Fill number TailMark)) same
 
 pub part_is : (geometry : Geometry) (draft : Draft) (body : List ℕ) (number len : ℕ) → IsDraft geometry draft body → len ≡ part_len (geometry.slot_size - 64) draft.len number

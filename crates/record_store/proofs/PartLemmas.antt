@@ -1,5 +1,6 @@
 -- A record that is read part by part.
-use Rattle.std.proofs.Common.{◌≡◌, ℕ, zero, suc, ◌+◌, ◌-◌, ◌*◌, ◌/◌, ◌%◌, ◌<◌, ◌≤◌, min, List, [], ◌∷◌, ◌++◌, length, take, drop, get_or, Some, refl, sym, ap, ◌∙◌, arith, inl, inr, length-append, length-drop}
+use Rattle.std.proofs.Common.{◌≡◌, ℕ, zero, suc, ◌+◌, ◌-◌, ◌*◌, ◌/◌, ◌%◌, ◌<◌, ◌≤◌, min, List, [], ◌∷◌, ◌++◌, length, take, drop, get_or, Some, refl, sym, ap}
+use Rattle.std.proofs.Common.{◌∙◌, arith, inl, inr, length-append, length-drop}
 use Rattle.std.proofs.Math.Nat.{add-mul, mul-le-mul_right}
 use Rattle.std.proofs.lemmas.Nat.{div-add-mod'}
 use Rattle.std.proofs.lemmas.Bool.{cases_lt}
@@ -70,7 +71,8 @@ joined_more room len slot slots number n h is =
     ∙ ap (λ (m : ℕ). parts_joined room len slot 0 (take number slots) ++ take (part_len room len number) (slot m).body) is
 
 -- the parts in all slots
-pub joined_all : (room : ℕ) (place : SlotOf) (slot : ℕ → Slot) (buffer : List ℕ) (n : ℕ) → length (slots_at room place) ≡ parts_of room place.len → n ≡ parts_of room place.len → length buffer ≡ place.len → place.len ≤ parts_of room place.len * room
+pub joined_all : (room : ℕ) (place : SlotOf) (slot : ℕ → Slot) (buffer : List ℕ) (n : ℕ) → length (slots_at room place) ≡ parts_of room place.len →
+    n ≡ parts_of room place.len → length buffer ≡ place.len → place.len ≤ parts_of room place.len * room
     → take (n * room) buffer ≡ parts_joined room place.len slot 0 (take n (slots_at room place)) → buffer ≡ parts_joined room place.len slot 0 (slots_at room place)
 joined_all room place slot buffer n count is long enough same =
     let whole : n * room ≡ parts_of room place.len * room = ap (λ (m : ℕ). m * room) is in

@@ -37,7 +37,8 @@ twice m a b n = omega arith
 raised_twice : (a b n : ℕ) → raised b (raised a n) ≡ raised (a + b) n
 raised_twice a b n = twice (2 ^ 64 - 1) a b n
 
-pub reads_more : {T E : Type 0} (tells : Type 0) (n k : ℕ) (old mid new : FlashState) (x : T) → HasRead tells n old mid → ReadsTimes {T = T} {E = E} tells k mid new (Ok x) → 0 < k → HasRead tells (n + k) old new
+pub reads_more : {T E : Type 0} (tells : Type 0) (n k : ℕ) (old mid new : FlashState) (x : T) → HasRead tells n old mid → ReadsTimes {T = T} {E = E} tells k mid
+    new (Ok x) → 0 < k → HasRead tells (n + k) old new
 reads_more tells n k old mid new x had more some = record {
   told = λ told. more.told told ∙ had.told told;
   size = more.size ∙ had.size;
@@ -71,4 +72,14 @@ reads_ok tells n total old new x had is some = record {
 
 -- what a single call that reads says
 pub reads_of_ok : {T E : Type 0} (tells : Type 0) (k : ℕ) (old new : FlashState) (x : T) → OnlyReads {T = T} {E = E} tells k old new (Ok x) → ReadsTimes {T = T} {E = E} tells k old new (Ok x)
-reads_of_ok tells k old new x stays = record { told = stays.told; size = stays.size; sector_size = stays.sector_size; steps = stays.steps; power = stays.power; lit = stays.lit; counted = stays.counted; cause = stays.cause; once = tt }
+reads_of_ok tells k old new x stays = record {
+  told = stays.told;
+  size = stays.size;
+  sector_size = stays.sector_size;
+  steps = stays.steps;
+  power = stays.power;
+  lit = stays.lit;
+  counted = stays.counted;
+  cause = stays.cause;
+  once = tt;
+}

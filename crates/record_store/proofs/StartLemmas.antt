@@ -1,5 +1,6 @@
 -- What a write begins with, from the lists.
-use Rattle.std.proofs.Common.{◌≡◌, ℕ, zero, suc, ◌+◌, ◌*◌, ◌-◌, ◌<◌, ◌≤◌, Bool, true, false, List, [], ◌∷◌, length, take, drop, get_or, cond, Option, Some, None, refl, sym, ap, subst, ◌∙◌, arith, inl, inr, length-drop}
+use Rattle.std.proofs.Common.{◌≡◌, ℕ, zero, suc, ◌+◌, ◌*◌, ◌-◌, ◌<◌, ◌≤◌, Bool, true, false, List, [], ◌∷◌, length, take, drop, get_or, cond, Option, Some}
+use Rattle.std.proofs.Common.{None, refl, sym, ap, subst, ◌∙◌, arith, inl, inr, length-drop}
 use Rattle.std.specs.Prelude.{◌==◌, ◌||◌, is_some}
 use Rattle.std.specs.List.{list_any}
 use Rattle.std.specs.FinMap.{get}
@@ -46,7 +47,8 @@ pub marks_more : (slot_size n : ℕ) (image : List ℕ) (slots : List ℕ) (mark
     → mark ≡ (tail_at image (get_or slots n 0 * slot_size) slot_size == tail_mark) → AreMarks slot_size image (n + 1) slots (set marks n mark)
 marks_more slot_size n image slots marks mark within had is i h = elim (cases_eq i n) [
   | inl here ↦
-      ap (λ (k : ℕ). get_or (set marks n mark) k false) here ∙ get_or-set_same marks n mark false within ∙ is ∙ ap (λ (k : ℕ). tail_at image (get_or slots k 0 * slot_size) slot_size == tail_mark) (sym here)
+      ap (λ (k : ℕ). get_or (set marks n mark) k false) here ∙ get_or-set_same marks n mark false within ∙ is
+      ∙ ap (λ (k : ℕ). tail_at image (get_or slots k 0 * slot_size) slot_size == tail_mark) (sym here)
   | inr apart ↦ get_or-set_other marks n i mark false apart ∙ had i (omega arith)
 ]
 
@@ -91,7 +93,8 @@ planned_takes tells geometry found image len draft replaced is long least most =
     (enough, plan_slots draft.slots draft.parts (omega arith) (omega arith) ∙ same_front draft.parts draft.slots found.free.items (omega arith) enough is.taken)
 
 pub planned_draft : (tells : Type 0) (geometry : Geometry) (found : Found) (image bytes : List ℕ) (draft : Draft) (replaced : Option SlotOf)
-    → IsPlanned tells geometry found image draft replaced → draft.len ≡ length bytes → IsListing geometry.slots geometry.slot_size found → 128 ≤ length bytes → length bytes ≤ reach_of (geometry.slot_size - 64)
+    → IsPlanned tells geometry found image draft replaced → draft.len ≡ length bytes → IsListing geometry.slots geometry.slot_size found → 128 ≤ length bytes →
+    length bytes ≤ reach_of (geometry.slot_size - 64)
     → IsDraft geometry draft bytes
 planned_draft tells geometry found image bytes draft replaced is long listing least most =
     let parts = parts_of_len geometry (length bytes) least most in
@@ -182,11 +185,13 @@ first_made layout plan = by_choice (nat_lt 0 (length plan.further)) refl
 
 -- The refusals, and the map
 
-allowed_new : (geometry : Geometry) (found : Found) (image : List ℕ) → IsListing geometry.slots geometry.slot_size found → KnowsSlots (layout_of geometry) image found → length image ≡ geometry.slot_size * geometry.slots
+allowed_new : (geometry : Geometry) (found : Found) (image : List ℕ) → IsListing geometry.slots geometry.slot_size found → KnowsSlots (layout_of geometry) image
+    found → length image ≡ geometry.slot_size * geometry.slots
     → length found.free.items + parts_in (room_of (layout_of geometry)) (records_of (layout_of geometry) image) ≡ geometry.slots
 allowed_new geometry found image listing known sized = free_and_stored geometry.slot_size geometry.slots image found (large_slot geometry) sized known.only known.list
 
-none_stored_at : (geometry : Geometry) (image : List ℕ) (id : ℕ) → IsPlaceFound (entry_at geometry.slot_size geometry.slots image) geometry.slots id None → get (records_of (layout_of geometry) image) id ≡ None
+none_stored_at : (geometry : Geometry) (image : List ℕ) (id : ℕ) → IsPlaceFound (entry_at geometry.slot_size geometry.slots image) geometry.slots id None →
+    get (records_of (layout_of geometry) image) id ≡ None
 none_stored_at geometry image id none =
     ap (λ (s : Stored). get s id) (unfold_stored geometry.slot_size geometry.slots image) ∙ no_place_stored (entry_at geometry.slot_size geometry.slots image) geometry.slots id none
 
@@ -218,7 +223,8 @@ planned_newest geometry found image id (Some place) known here k e h at_k is =
 
 -- the map takes the record of a plan
 pub planned_taken : (tells : Type 0) (geometry : Geometry) (found : Found) (image bytes : List ℕ) (draft : Draft) (replaced : Option SlotOf)
-    → IsPlanned tells geometry found image draft replaced → draft.len ≡ length bytes → IsListing geometry.slots geometry.slot_size found → KnowsSlots (layout_of geometry) image found → length image ≡ geometry.slot_size * geometry.slots
+    → IsPlanned tells geometry found image draft replaced → draft.len ≡ length bytes → IsListing geometry.slots geometry.slot_size found →
+    KnowsSlots (layout_of geometry) image found → length image ≡ geometry.slot_size * geometry.slots
     → refusal_of (layout_of geometry) (Write draft.id bytes) (records_of (layout_of geometry) image) ≡ None
 planned_taken tells geometry found image bytes draft None is long listing known sized =
     let all = allowed_new geometry found image listing known sized in

@@ -139,7 +139,8 @@ looks_ready tells v x ready = record {
   ends = ends_none v.flash x;
 }
 
-rescanned_few : (geometry : Geometry) (flash new : FlashState) → ChangesFew geometry.slot_size geometry.slots flash new → NearlyOnlyFirstUp geometry.slot_size geometry.slots flash.told.image → new.steps ≤ flash.steps + 1
+rescanned_few : (geometry : Geometry) (flash new : FlashState) → ChangesFew geometry.slot_size geometry.slots flash new → NearlyOnlyFirstUp geometry.slot_size
+    geometry.slots flash.told.image → new.steps ≤ flash.steps + 1
 rescanned_few geometry flash new few nearly = let one = second_copies-few geometry.slot_size geometry.slots flash.told.image nearly in omega arith
 
 pub rescanned_spare : (size slots : ℕ) (old new : Told) → StaysNearly size slots old new → NearlyOnlyFirstUp size slots old.image → NearlyOnlyFirstUp size slots new.image
@@ -155,7 +156,8 @@ pub record IsScanned (tells : Type 0) (geometry : Geometry) (old new : FlashStat
   pub power : LosesOnlyByChange old new
 
 looks_scanned : {T : Type 0} (tells : Type 0) (geometry : Geometry) (old new : FlashState) (doubt after : Bool) (pending : Pending) (y : Result T StoreError) → IsScanned tells geometry old new
-    → doubt ≡ true → pending ≡ Idle → (tells → EndsCopies (view_of geometry old doubt pending) (view_of geometry new after pending) y) → ByFault y (IsInDoubt (view_of geometry new after pending)) (IsReady (view_of geometry new after pending)) → HasFaultsOf old.faults new.faults y
+    → doubt ≡ true → pending ≡ Idle → (tells → EndsCopies (view_of geometry old doubt pending) (view_of geometry new after pending) y) →
+    ByFault y (IsInDoubt (view_of geometry new after pending)) (IsReady (view_of geometry new after pending)) → HasFaultsOf old.faults new.faults y
     → EndsAtFault {T = T} old new y → OnlyLooks {T = T} tells (view_of geometry old doubt pending) (view_of geometry new after pending) y
 looks_scanned tells geometry old new doubt after pending y scanned unsure idle ended has_doubt cause ends = record {
   kept = scanned.crash;
@@ -174,7 +176,8 @@ looks_scanned tells geometry old new doubt after pending y scanned unsure idle e
   ends = ends;
 }
 
-pub looks_again : {T : Type 0} (tells : Type 0) (geometry : Geometry) (old new : FlashState) (found : Found) (doubt : Bool) (pending : Pending) (v : StoreView) (x : T) → view_of geometry old doubt pending ≡ v
+pub looks_again : {T : Type 0} (tells : Type 0) (geometry : Geometry) (old new : FlashState) (found : Found) (doubt : Bool) (pending : Pending) (v : StoreView)
+    (x : T) → view_of geometry old doubt pending ≡ v
     → doubt ≡ true → pending ≡ Idle → IsScanned tells geometry old new → (tells → IsRecovered geometry.slot_size geometry.slots old new found) → new.faults ≡ old.faults
     → EndsAtFault {T = T} old new (Ok x) → OnlyLooks {T = T} tells v (view_of geometry new false pending) (Ok x)
 looks_again {T} tells geometry old new found doubt pending v x is unsure idle scanned recovered same ends =
@@ -188,14 +191,17 @@ pub looks_failed : {T : Type 0} (tells : Type 0) (geometry : Geometry) (old new 
     → StaysPowered old new → new.faults ≡ next_count old.faults → OnlyLooks {T = T} tells v (view_of geometry new doubt pending) (Err Flash)
 looks_failed {T} tells geometry old new doubt pending v is unsure idle scanned up rose lit once =
     subst (λ (u : StoreView). OnlyLooks {T = T} tells u (view_of geometry new doubt pending) (Err Flash)) is
-    (looks_scanned {T = T} tells geometry old new doubt doubt pending (Err Flash) scanned unsure idle (λ told. tt) (record { doubt = unsure; idle = idle }) (up, rose) (record { once = once; lit = lit; same_power = tt; later = tt }))
+    (looks_scanned {T = T} tells geometry old new doubt doubt pending (Err Flash) scanned unsure idle (λ told. tt) (record { doubt = unsure; idle = idle })
+    (up, rose) (record { once = once; lit = lit; same_power = tt; later = tt }))
 
 -- by a store that was put in doubt, and one whose flash got its power back
-pub looks_doubted : {T : Type 0} (tells : Type 0) (geometry : Geometry) (flash : FlashState) (doubt : Bool) (pending : Pending) (v new : StoreView) (y : Result T StoreError) → view_of geometry flash doubt pending ≡ v
+pub looks_doubted : {T : Type 0} (tells : Type 0) (geometry : Geometry) (flash : FlashState) (doubt : Bool) (pending : Pending) (v new : StoreView)
+    (y : Result T StoreError) → view_of geometry flash doubt pending ≡ v
     → OnlyLooks {T = T} tells (view_of geometry flash true Idle) new y → OnlyLooks {T = T} tells (doubted v) new y
 looks_doubted {T} tells geometry flash doubt pending v new y is had = subst (λ (u : StoreView). OnlyLooks {T = T} tells (doubted u) new y) is had
 
-pub looks_restarted : {T : Type 0} (tells : Type 0) (geometry : Geometry) (flash on : FlashState) (doubt : Bool) (pending : Pending) (v new : StoreView) (y : Result T StoreError) → view_of geometry flash doubt pending ≡ v
+pub looks_restarted : {T : Type 0} (tells : Type 0) (geometry : Geometry) (flash on : FlashState) (doubt : Bool) (pending : Pending) (v new : StoreView)
+    (y : Result T StoreError) → view_of geometry flash doubt pending ≡ v
     → on ≡ restart flash → OnlyLooks {T = T} tells (doubted (view_of geometry on doubt pending)) new y → OnlyLooks {T = T} tells (restarted v) new y
 looks_restarted {T} tells geometry flash on doubt pending v new y is again had =
     subst (λ (u : StoreView). OnlyLooks {T = T} tells (restarted u) new y) is
@@ -224,13 +230,15 @@ start_reads tells count old mid new x (Err Flash) had still = tt
 start_reads tells count old mid new x (Err (Small need)) had still = ap (λ (v : StoreView). v.flash.reads) still ∙ had
 
 -- and so do those of a record
-pub read_still : {U E : Type 0} (tells : Type 0) (geometry : Geometry) (flash new : FlashState) (doubt : Bool) (pending : Pending) (old : StoreView) (size : ℕ) (z : U) → view_of geometry flash doubt pending ≡ old
+pub read_still : {U E : Type 0} (tells : Type 0) (geometry : Geometry) (flash new : FlashState) (doubt : Bool) (pending : Pending) (old : StoreView) (size : ℕ)
+    (z : U) → view_of geometry flash doubt pending ≡ old
     → ReadsTimes {T = U} {E = E} tells (parts_of (geometry.slot_size - 64) size) flash new (Ok z) → ReadsFlash tells (parts_of (room_of old.layout) size) old.flash new
 read_still tells geometry flash new doubt pending old size z is reads =
     subst (λ (u : StoreView). ReadsFlash tells (parts_of (room_of u.layout) size) u.flash new) is
     (record { told = reads.told; steps = reads.steps; power = reads.power }, reads.counted)
 
-pub read_reads : (geometry : Geometry) (flash new : FlashState) (doubt : Bool) (pending : Pending) (old mid : StoreView) (size : ℕ) → view_of geometry flash doubt pending ≡ mid → mid.layout ≡ old.layout
+pub read_reads : (geometry : Geometry) (flash new : FlashState) (doubt : Bool) (pending : Pending) (old mid : StoreView) (size : ℕ) →
+    view_of geometry flash doubt pending ≡ mid → mid.layout ≡ old.layout
     → mid.flash.reads ≡ reads_to_know old → new.reads ≡ raised (parts_of (geometry.slot_size - 64) size) flash.reads → new.reads ≡ raised (parts_of (room_of old.layout) size) (reads_to_know old)
 read_reads geometry flash new doubt pending old mid size is layout known counted =
     counted ∙ ap (λ (u : StoreView). raised (parts_of (room_of u.layout) size) u.flash.reads) is ∙ ap (λ (l : Layout). raised (parts_of (room_of l) size) mid.flash.reads) layout
@@ -247,7 +255,8 @@ power_read old mid new power steps had = record {
   lost = elim had.lost [ inl same ↦ inl (power ∙ same) | inr lost ↦ inr (omega arith) ];
 }
 
-looks_read : {T V U E : Type 0} (tells : Type 0) (old mid new : StoreView) (count : ℕ) (x : T) (z : U) (y : V) → OnlyLooks {T = T} tells old mid (Ok x) → ReadsTimes {T = U} {E = E} tells count mid.flash new.flash (Ok z)
+looks_read : {T V U E : Type 0} (tells : Type 0) (old mid new : StoreView) (count : ℕ) (x : T) (z : U) (y : V) → OnlyLooks {T = T} tells old mid (Ok x) →
+    ReadsTimes {T = U} {E = E} tells count mid.flash new.flash (Ok z)
     → new.layout ≡ mid.layout → IsReady new → OnlyLooks {T = V} tells old new (Ok y)
 looks_read tells old mid new count x z y had reads layout ready = record {
   kept = λ told. same_told (λ image. records_of old.layout image ≡ stored old) old.flash.told mid.flash.told new.flash.told (reads.told told) (had.kept told);
@@ -262,7 +271,8 @@ looks_read tells old mid new count x z y had reads layout ready = record {
   ends = ends_then old.flash mid.flash new.flash x (Ok y) had.cause had.ends (ends_read tells count mid.flash new.flash z y reads);
 }
 
-looks_read_failed : {T V U E : Type 0} (tells : Type 0) (old mid new : StoreView) (count : ℕ) (x : T) (e : E) → OnlyLooks {T = T} tells old mid (Ok x) → ReadsTimes {T = U} {E = E} tells count mid.flash new.flash (Err e)
+looks_read_failed : {T V U E : Type 0} (tells : Type 0) (old mid new : StoreView) (count : ℕ) (x : T) (e : E) → OnlyLooks {T = T} tells old mid (Ok x) →
+    ReadsTimes {T = U} {E = E} tells count mid.flash new.flash (Err e)
     → new.layout ≡ mid.layout → IsInDoubt new → OnlyLooks {T = V} tells old new (Err Flash)
 looks_read_failed tells old mid new count x e had reads layout doubt = record {
   kept = λ told. same_told (λ image. records_of old.layout image ≡ stored old) old.flash.told mid.flash.told new.flash.told (reads.told told) (had.kept told);
@@ -296,8 +306,11 @@ same_slots_for old new len layout free =
     ap (λ (l : Layout). take (parts_of (room_of l) len) (free_in new)) layout ∙ ap (take (parts_of (room_of old.layout) len)) free
 
 -- what a store that knows its records leaves of a start, whatever it answers
-pub starts_by : (tells : Type 0) (old mid new : StoreView) (x : Unit {0}) (y : Result (Unit {0}) StoreError) → OnlyLooks tells old mid (Ok x) → (tells → new.flash.told ≡ mid.flash.told) → new.flash.steps ≡ mid.flash.steps
-    → new.flash.powered ≡ mid.flash.powered → DividesAlike mid new → MatchResult y (λ _. new.in_doubt ≡ false) (λ error. ByFault {T = Unit {0}} (Err error) (IsInDoubt new) (IsReady new)) → HasFaultsOf old.flash.faults new.flash.faults y → (tells → EndsCopies old new y) → EndsAtFault old.flash new.flash y → OnlyStarts tells old new y
+pub starts_by : (tells : Type 0) (old mid new : StoreView) (x : Unit {0}) (y : Result (Unit {0}) StoreError) → OnlyLooks tells old mid (Ok x) →
+    (tells → new.flash.told ≡ mid.flash.told) → new.flash.steps ≡ mid.flash.steps
+    → new.flash.powered ≡ mid.flash.powered → DividesAlike mid new → MatchResult y (λ _. new.in_doubt ≡ false)
+    (λ error. ByFault {T = Unit {0}} (Err error) (IsInDoubt new) (IsReady new)) → HasFaultsOf old.flash.faults new.flash.faults y →
+    (tells → EndsCopies old new y) → EndsAtFault old.flash new.flash y → OnlyStarts tells old new y
 starts_by tells old mid new x y had told steps power equivalent doubt cause ended ends = record {
   kept = λ t. same_told (λ image. records_of old.layout image ≡ stored old) old.flash.told mid.flash.told new.flash.told (told t) (had.kept t);
   few = λ t. let before = had.few t in omega arith;
@@ -311,38 +324,57 @@ starts_by tells old mid new x y had told steps power equivalent doubt cause ende
 }
 
 -- a start that follows a look
-pub starts_then : (count : Unit {0} → ℕ) (tells : Type 0) (old mid new : StoreView) (x : Unit {0}) (y : Result (Unit {0}) StoreError) → OnlyLooks tells old mid (Ok x) → ReadsExactly tells count mid new y
+pub starts_then : (count : Unit {0} → ℕ) (tells : Type 0) (old mid new : StoreView) (x : Unit {0}) (y : Result (Unit {0}) StoreError) →
+    OnlyLooks tells old mid (Ok x) → ReadsExactly tells count mid new y
     → OnlyStarts tells mid new y → OnlyStarts tells old new y
 starts_then count tells old mid new x (Ok done) had still starts =
-    starts_by tells old mid new x (Ok done) had still.0.told still.0.steps still.0.power starts.equivalent starts.doubt (starts.cause ∙ had.cause) (λ told. still.0.steps ∙ had.ended told) (ends_then old.flash mid.flash new.flash x (Ok done) had.cause had.ends starts.ends)
+    starts_by tells old mid new x (Ok done) had still.0.told still.0.steps still.0.power starts.equivalent starts.doubt (starts.cause ∙ had.cause)
+    (λ told. still.0.steps ∙ had.ended told) (ends_then old.flash mid.flash new.flash x (Ok done) had.cause had.ends starts.ends)
 starts_then count tells old mid new x (Err (NoSpace free)) had still starts =
     let steps : new.flash.steps ≡ mid.flash.steps = ap (λ (v : StoreView). v.flash.steps) still in
-    starts_by tells old mid new x (Err (NoSpace free)) had (λ t. ap (λ (v : StoreView). v.flash.told) still) steps (ap (λ (v : StoreView). v.flash.powered) still) starts.equivalent starts.doubt (starts.cause ∙ had.cause)
+    starts_by tells old mid new x (Err (NoSpace free)) had (λ t. ap (λ (v : StoreView). v.flash.told) still) steps
+    (ap (λ (v : StoreView). v.flash.powered) still) starts.equivalent starts.doubt (starts.cause ∙ had.cause)
     (λ told. steps ∙ had.ended told) (ends_then old.flash mid.flash new.flash x (Err (NoSpace free)) had.cause had.ends starts.ends)
 starts_then count tells old mid new x (Err (LastGeneration id)) had still starts =
     let steps : new.flash.steps ≡ mid.flash.steps = ap (λ (v : StoreView). v.flash.steps) still in
-    starts_by tells old mid new x (Err (LastGeneration id)) had (λ t. ap (λ (v : StoreView). v.flash.told) still) steps (ap (λ (v : StoreView). v.flash.powered) still) starts.equivalent starts.doubt (starts.cause ∙ had.cause)
+    starts_by tells old mid new x (Err (LastGeneration id)) had (λ t. ap (λ (v : StoreView). v.flash.told) still) steps
+    (ap (λ (v : StoreView). v.flash.powered) still) starts.equivalent starts.doubt (starts.cause ∙ had.cause)
     (λ told. steps ∙ had.ended told) (ends_then old.flash mid.flash new.flash x (Err (LastGeneration id)) had.cause had.ends starts.ends)
 starts_then count tells old mid new x (Err NotFound) had still starts =
     let steps : new.flash.steps ≡ mid.flash.steps = ap (λ (v : StoreView). v.flash.steps) still in
-    starts_by tells old mid new x (Err NotFound) had (λ t. ap (λ (v : StoreView). v.flash.told) still) steps (ap (λ (v : StoreView). v.flash.powered) still) starts.equivalent starts.doubt (starts.cause ∙ had.cause)
+    starts_by tells old mid new x (Err NotFound) had (λ t. ap (λ (v : StoreView). v.flash.told) still) steps (ap (λ (v : StoreView). v.flash.powered) still)
+    starts.equivalent starts.doubt (starts.cause ∙ had.cause)
     (λ told. steps ∙ had.ended told) (ends_then old.flash mid.flash new.flash x (Err NotFound) had.cause had.ends starts.ends)
 starts_then count tells old mid new x (Err Empty) had still starts =
     let steps : new.flash.steps ≡ mid.flash.steps = ap (λ (v : StoreView). v.flash.steps) still in
-    starts_by tells old mid new x (Err Empty) had (λ t. ap (λ (v : StoreView). v.flash.told) still) steps (ap (λ (v : StoreView). v.flash.powered) still) starts.equivalent starts.doubt (starts.cause ∙ had.cause)
+    starts_by tells old mid new x (Err Empty) had (λ t. ap (λ (v : StoreView). v.flash.told) still) steps (ap (λ (v : StoreView). v.flash.powered) still)
+    starts.equivalent starts.doubt (starts.cause ∙ had.cause)
     (λ told. steps ∙ had.ended told) (ends_then old.flash mid.flash new.flash x (Err Empty) had.cause had.ends starts.ends)
 starts_then count tells old mid new x (Err Flash) had still starts =
     let cause = starts.cause in
     let same = had.cause in
     starts_by tells old mid new x (Err Flash) had still.told still.steps still.power starts.equivalent starts.doubt
-    (let up : mid.flash.faults ≤ new.flash.faults = cause.0 in omega arith, subst (λ (f : ℕ). Rose f new.flash.faults) same cause.1) (λ told. tt) (ends_then old.flash mid.flash new.flash x (Err Flash) had.cause had.ends starts.ends)
+    (let up : mid.flash.faults ≤ new.flash.faults = cause.0 in omega arith, subst (λ (f : ℕ). Rose f new.flash.faults) same cause.1) (λ told. tt)
+    (ends_then old.flash mid.flash new.flash x (Err Flash) had.cause had.ends starts.ends)
 starts_then count tells old mid new x (Err (Small need)) had still starts =
     let steps : new.flash.steps ≡ mid.flash.steps = ap (λ (v : StoreView). v.flash.steps) still in
-    starts_by tells old mid new x (Err (Small need)) had (λ t. ap (λ (v : StoreView). v.flash.told) still) steps (ap (λ (v : StoreView). v.flash.powered) still) starts.equivalent starts.doubt (starts.cause ∙ had.cause)
+    starts_by tells old mid new x (Err (Small need)) had (λ t. ap (λ (v : StoreView). v.flash.told) still) steps (ap (λ (v : StoreView). v.flash.powered) still)
+    starts.equivalent starts.doubt (starts.cause ∙ had.cause)
     (λ told. steps ∙ had.ended told) (ends_then old.flash mid.flash new.flash x (Err (Small need)) had.cause had.ends starts.ends)
 
 pub starts_refused : (tells : Type 0) (old mid : StoreView) (x : Unit {0}) → OnlyLooks {T = Unit {0}} tells old mid (Ok x) → OnlyStarts tells old mid (Err NotFound)
-starts_refused tells old mid x had = record { kept = had.kept; few = had.few; ended = had.ended; at_most = had.at_most; doubt = had.doubt; equivalent = had.equivalent; power = had.power; cause = had.cause; ends = ends_refused old.flash mid.flash x NotFound (λ e. cc) had.ends }
+starts_refused tells old mid x had = record {
+  kept = had.kept;
+  few = had.few;
+  ended = had.ended;
+  at_most = had.at_most;
+  doubt = had.doubt;
+  equivalent =
+      had.equivalent;
+  power = had.power;
+  cause = had.cause;
+  ends = ends_refused old.flash mid.flash x NotFound (λ e. cc) had.ends;
+}
 
 -- what a start answered a store that knows its records is the answer to the store at first
 at_old : (old mid : StoreView) → mid.layout ≡ old.layout → stored mid ≡ stored old → (P : Layout → Stored → Type 0) → P mid.layout (stored mid) → P old.layout (stored old)
@@ -401,21 +433,25 @@ idle_still : (layout : Layout) (buffer read : List ℕ) (work : Begun) → pendi
 idle_still layout buffer read work is = ap (pending_of layout read) (idle_work layout buffer work is)
 
 -- what a read leaves of a store that has looked
-pub read_leaves : {T V U E : Type 0} (tells : Type 0) (geometry : Geometry) (flash new : FlashState) (buffer read : List ℕ) (doubt : Bool) (work : Begun) (old v : StoreView) (count : ℕ) (x : T) (z : U) (y : V)
+pub read_leaves : {T V U E : Type 0} (tells : Type 0) (geometry : Geometry) (flash new : FlashState) (buffer read : List ℕ) (doubt : Bool) (work : Begun)
+    (old v : StoreView) (count : ℕ) (x : T) (z : U) (y : V)
     → view_of geometry flash doubt (pending_of (layout_of geometry) buffer work) ≡ v → OnlyLooks {T = T} tells old v (Ok x) → ReadsTimes {T = U} {E = E} tells count flash new (Ok z)
     → OnlyLooks {T = V} tells old (view_of geometry new doubt (pending_of (layout_of geometry) read work)) (Ok y)
 read_leaves {T} {V} tells geometry flash new buffer read doubt work old v count x z y is had reads =
-    looks_read {T = T} {V = V} tells old (view_of geometry flash doubt (pending_of (layout_of geometry) buffer work)) (view_of geometry new doubt (pending_of (layout_of geometry) read work)) count x z y
+    looks_read {T = T} {V = V} tells old (view_of geometry flash doubt (pending_of (layout_of geometry) buffer work))
+    (view_of geometry new doubt (pending_of (layout_of geometry) read work)) count x z y
     (subst (λ (u : StoreView). OnlyLooks {T = T} tells old u (Ok x)) (sym is) had) reads refl
     (record {
       certain = ap (λ (u : StoreView). u.in_doubt) is ∙ had.doubt.certain;
       idle = idle_still (layout_of geometry) buffer read work (ap (λ (u : StoreView). u.pending) is ∙ had.idle);
     })
 
-pub read_failed_leaves : {T V U E : Type 0} (tells : Type 0) (geometry : Geometry) (flash new : FlashState) (buffer read : List ℕ) (doubt : Bool) (work : Begun) (old v : StoreView) (count : ℕ) (x : T) (e : E)
+pub read_failed_leaves : {T V U E : Type 0} (tells : Type 0) (geometry : Geometry) (flash new : FlashState) (buffer read : List ℕ) (doubt : Bool) (work : Begun)
+    (old v : StoreView) (count : ℕ) (x : T) (e : E)
     → view_of geometry flash doubt (pending_of (layout_of geometry) buffer work) ≡ v → OnlyLooks {T = T} tells old v (Ok x) → ReadsTimes {T = U} {E = E} tells count flash new (Err e)
     → OnlyLooks {T = V} tells old (view_of geometry new true (pending_of (layout_of geometry) read work)) (Err Flash)
 read_failed_leaves {T} {V} tells geometry flash new buffer read doubt work old v count x e is had reads =
-    looks_read_failed {T = T} {V = V} tells old (view_of geometry flash doubt (pending_of (layout_of geometry) buffer work)) (view_of geometry new true (pending_of (layout_of geometry) read work)) count x e
+    looks_read_failed {T = T} {V = V} tells old (view_of geometry flash doubt (pending_of (layout_of geometry) buffer work))
+    (view_of geometry new true (pending_of (layout_of geometry) read work)) count x e
     (subst (λ (u : StoreView). OnlyLooks {T = T} tells old u (Ok x)) (sym is) had) reads refl
     (record { doubt = refl; idle = idle_still (layout_of geometry) buffer read work (ap (λ (u : StoreView). u.pending) is ∙ had.idle) })

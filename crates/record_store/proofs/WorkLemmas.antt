@@ -1,5 +1,6 @@
 -- What each change of what is pending makes of the slots and of the map.
-use Rattle.std.proofs.Common.{◌≡◌, ◌≢◌, ◌⊎◌, ℕ, zero, suc, ◌+◌, ◌-◌, ◌*◌, ◌<◌, ◌≤◌, Bool, true, false, cond, nat_eq, not, List, [], ◌∷◌, length, take, drop, get_or, Option, Some, None, refl, sym, ap, subst, ◌∙◌, arith, inl, inr, length-drop}
+use Rattle.std.proofs.Common.{◌≡◌, ◌≢◌, ◌⊎◌, ℕ, zero, suc, ◌+◌, ◌-◌, ◌*◌, ◌<◌, ◌≤◌, Bool, true, false, cond, nat_eq, not, List, [], ◌∷◌, length, take, drop}
+use Rattle.std.proofs.Common.{get_or, Option, Some, None, refl, sym, ap, subst, ◌∙◌, arith, inl, inr, length-drop}
 use Rattle.std.specs.Prelude.{is_some, IfSome, ◌&&◌}
 use Rattle.std.specs.FinMap.{get, insert, remove}
 use Rattle.std.proofs.lemmas.Bool.{cases_eq, cond-true, cond-false, eq-eqb, ne_eqb}
@@ -12,7 +13,8 @@ use Rattle.flash_model.specs.Layouts.{layout_of}
 use Rattle.base_model.specs.Flash.{Told, Leaves, MayChange, IsErased}
 use Rattle.base_model.specs.Layout.{Layout, reach_of}
 use Rattle.base_model.proofs.CrashLemmas.{Leaves-weaker, Leaves-exit}
-use Rattle.record_model.specs.Records.{Entry, Stored, entry_at, entry_of, slot_at, head_at, is_up, stored_in, parts_of, part_len, is_taken, holds, IsChosen, OnlyFirstUp, NearlyOnlyFirstUp, gate_open, kill_mark}
+use Rattle.record_model.specs.Records.{Entry, Stored, entry_at, entry_of, slot_at, head_at, is_up, stored_in, parts_of, part_len, is_taken, holds, IsChosen}
+use Rattle.record_model.specs.Records.{OnlyFirstUp, NearlyOnlyFirstUp, gate_open, kill_mark}
 use Rattle.record_model.proofs.MarkLemmas.{killed_is_not_erased}
 use Rattle.record_model.specs.RecordMap.{Write as write, Clear as clear, made_by, next_generation, pieces_of}
 use Rattle.record_model.specs.Filling as filling
@@ -72,7 +74,8 @@ only_each size slots image only k h up = only k h up
 
 further_le : (per_slot room size n m : ℕ) → n ≤ m → made_in_further per_slot room size n ≤ made_in_further per_slot room size m
 unfolding made_in_further
-further_le per_slot room size n zero h = let none : n ≡ 0 = omega arith in let same : made_in_further per_slot room size n ≡ made_in_further per_slot room size 0 = ap (made_in_further per_slot room size) none in omega arith
+further_le per_slot room size n zero h = let none : n ≡ 0 = omega arith in let same : made_in_further per_slot room size n ≡ made_in_further per_slot room size
+    0 = ap (made_in_further per_slot room size) none in omega arith
 further_le per_slot room size n (suc m) h = elim (cases_eq n (suc m)) [
   | inl here ↦ let same : made_in_further per_slot room size n ≡ made_in_further per_slot room size (suc m) = ap (made_in_further per_slot room size) here in omega arith
   | inr below ↦ let less : made_in_further per_slot room size n ≤ made_in_further per_slot room size m = further_le per_slot room size n m (omega arith) in omega arith
@@ -184,7 +187,8 @@ module _ (geometry : Geometry) (buffer : List ℕ) (draft : Draft) (number : ℕ
 
 -- The gate
 
-gate_counted : (geometry : Geometry) (draft : Draft) (body : List ℕ) → IsDraft geometry draft body → made_at (layout_of geometry) (plan_of draft body) planned.Gate ≡ changes_before_gate (layout_of geometry) body
+gate_counted : (geometry : Geometry) (draft : Draft) (body : List ℕ) → IsDraft geometry draft body → made_at (layout_of geometry) (plan_of draft body)
+    planned.Gate ≡ changes_before_gate (layout_of geometry) body
 gate_counted geometry draft body is = made_before_gate (layout_of geometry) (plan_of draft body) is.plan
 
 at_gate : (layout : Layout) (id made : ℕ) (bytes slots : List ℕ) (replaces : Bool) (stored : Stored) → made ≡ changes_before_gate layout bytes
@@ -225,7 +229,8 @@ gate_may geometry found buffer draft replaced old new is known leaves =
     (λ image either. elim either [
       | inl kept ↦ inl kept
       | inr opened ↦ inr (opened ∙ made_is draft.id draft.generation body (records_of layout old.image) known.generation
-          ∙ sym (at_gate layout draft.id (made_at layout (plan_of draft body) planned.Gate) body (slots_in draft) (is_some replaced) (records_of layout old.image) (gate_counted geometry draft body is)))
+          ∙ sym (at_gate layout draft.id (made_at layout (plan_of draft body) planned.Gate) body (slots_in draft) (is_some replaced)
+          (records_of layout old.image) (gate_counted geometry draft body is)))
     ])
 
 -- a slot that has a record has its gate open
@@ -255,7 +260,8 @@ opened_at geometry found draft body old new stage replaced known opens =
       entry = record_for (plan_of draft body);
       of_id = refl;
       in_further = refl;
-      chosen = IsChosen-opened (entry_at geometry.slot_size geometry.slots old) (entry_at geometry.slot_size geometry.slots new) geometry.slots (get_or draft.slots 0 0) (record_for (plan_of draft body)) free.0
+      chosen = IsChosen-opened (entry_at geometry.slot_size geometry.slots old) (entry_at geometry.slot_size geometry.slots new) geometry.slots
+          (get_or draft.slots 0 0) (record_for (plan_of draft body)) free.0
           has.same has.here has.newest;
     }
 
@@ -274,7 +280,8 @@ opened_others geometry found draft body old new place known opens same k h aside
     let wide = SameOutside-wider (first * size) 1 (first * size) size old new (omega arith) (omega arith) same in
     gate_nearly (size - 64) slots (slot_at size old) (slot_at size new) first place.slot (record_for (plan_of draft body)) known.plan.only free.1 free.0
     (λ n other. slot_at-other size first n old new (omega arith) wide other) opens.here known.plan.newest k h aside
-    (λ x at_k equal. only_single (size - 64) slots (slot_at size old) known.plan.only k place.slot x known.over.chosen h (known.over.is).within at_k (known.over.is).here (equal ∙ sym known.over.of_id)) up
+    (λ x at_k equal. only_single (size - 64) slots (slot_at size old) known.plan.only k place.slot x known.over.chosen h (known.over.is).within at_k
+    (known.over.is).here (equal ∙ sym known.over.of_id)) up
 
 pub gate_made : (tells : Type 0) (geometry : Geometry) (before found : Found) (buffer : List ℕ) (draft : Draft) (replaced : Option SlotOf) (old new : Told)
     → IsWrite geometry before (take draft.len buffer) draft Gate replaced
@@ -516,8 +523,10 @@ old_copy_list geometry found after draft place old new sized known same mark lis
     (kill_lost geometry place.slot old new known.lost known.here same mark) known.is (its_parts geometry old place.slot known.lost sized known.here)
     (older_of geometry found old draft place known) known.list
 
-pub old_copy_made : (tells : Type 0) (geometry : Geometry) (before found : Found) (buffer : List ℕ) (draft : Draft) (place : SlotOf) (old new : Told) → (tells → length old.image ≡ geometry.slot_size * geometry.slots)
-    → (tells → KnowsOldCopy geometry before old.image draft place) → (tells → MayChange (place.slot * geometry.slot_size + 1) 1 old new) → (tells → number_at new.image (place.slot * geometry.slot_size + 1) 1 ≡ kill_mark)
+pub old_copy_made : (tells : Type 0) (geometry : Geometry) (before found : Found) (buffer : List ℕ) (draft : Draft) (place : SlotOf) (old new : Told) →
+    (tells → length old.image ≡ geometry.slot_size * geometry.slots)
+    → (tells → KnowsOldCopy geometry before old.image draft place) → (tells → MayChange (place.slot * geometry.slot_size + 1) 1 old new) →
+    (tells → number_at new.image (place.slot * geometry.slot_size + 1) 1 ≡ kill_mark)
     → EndsOlder geometry before found place → HasMade tells (kept_of geometry found buffer) old.image new.image (OldCopy draft place) Nothing
 old_copy_made tells geometry before found buffer draft place old new sized knows may mark lists = record {
   form = tt;
@@ -538,7 +547,8 @@ old_copy_made tells geometry before found buffer draft place old new sized knows
         entry = known.newer.entry;
         of_id = known.newer.of_id;
         in_further = known.newer.in_further;
-        chosen = IsChosen-without (entry_at geometry.slot_size geometry.slots old.image) (entry_at geometry.slot_size geometry.slots new.image) geometry.slots place.slot (get_or draft.slots 0 0) known.newer.entry
+        chosen = IsChosen-without (entry_at geometry.slot_size geometry.slots old.image) (entry_at geometry.slot_size geometry.slots new.image) geometry.slots
+            place.slot (get_or draft.slots 0 0) known.newer.entry
             lost.same lost.gone known.apart known.newer.chosen;
       };
 }
@@ -589,7 +599,8 @@ only_copy : (geometry : Geometry) (found : Found) (id : ℕ) (place : SlotOf) (i
     → IsOnlyCopy (entry_at geometry.slot_size geometry.slots image) geometry.slots place.slot id
 unfolding entry_at
 only_copy geometry found id place image known k e h at_k is =
-    only_single (geometry.slot_size - 64) geometry.slots (slot_at geometry.slot_size image) known.slots.only k place.slot e known.held.chosen h (known.held.is).within at_k (known.held.is).here (is ∙ sym known.held.of_id)
+    only_single (geometry.slot_size - 64) geometry.slots (slot_at geometry.slot_size image) known.slots.only k place.slot e known.held.chosen h
+    (known.held.is).within at_k (known.held.is).here (is ∙ sym known.held.of_id)
 
 -- the lists without a record
 abbrev pub EndsRecord : Geometry → Found → Found → ℕ → Type 0
@@ -605,8 +616,10 @@ cleared_list geometry found after id place old new sized known same mark lists =
     (kill_lost geometry place.slot old new held.chosen (held.is).here same mark) held.of_id (its_parts geometry old place.slot held.chosen sized (held.is).here)
     (only_copy geometry found id place old known) known.slots.list
 
-pub cleared_made : (tells : Type 0) (geometry : Geometry) (before found : Found) (buffer : List ℕ) (id : ℕ) (place : SlotOf) (old new : Told) → (tells → length old.image ≡ geometry.slot_size * geometry.slots)
-    → (tells → KnowsCleared geometry before old.image id place) → (tells → MayChange (place.slot * geometry.slot_size + 1) 1 old new) → (tells → number_at new.image (place.slot * geometry.slot_size + 1) 1 ≡ kill_mark)
+pub cleared_made : (tells : Type 0) (geometry : Geometry) (before found : Found) (buffer : List ℕ) (id : ℕ) (place : SlotOf) (old new : Told) →
+    (tells → length old.image ≡ geometry.slot_size * geometry.slots)
+    → (tells → KnowsCleared geometry before old.image id place) → (tells → MayChange (place.slot * geometry.slot_size + 1) 1 old new) →
+    (tells → number_at new.image (place.slot * geometry.slot_size + 1) 1 ≡ kill_mark)
     → EndsRecord geometry before found id → HasMade tells (kept_of geometry found buffer) old.image new.image (Clear id place) Nothing
 cleared_made tells geometry before found buffer id place old new sized knows may mark lists = record {
   form = tt;
@@ -616,7 +629,8 @@ cleared_made tells geometry before found buffer id place old new sized knows may
       record {
         list = cleared_list geometry before found id place old.image new.image (sized told) known (same told) (mark told) lists;
         only = spare_killed geometry.slot_size geometry.slots place.slot old.image new.image large
-            (up_here geometry.slot_size geometry.slots place.slot old.image known.held.chosen (known.held.is).here).1 (λ k h apart up. only_each geometry.slot_size geometry.slots old.image known.slots.only k h up) (same told) (killed_is_not_erased (mark told));
+            (up_here geometry.slot_size geometry.slots place.slot old.image known.held.chosen (known.held.is).here).1
+            (λ k h apart up. only_each geometry.slot_size geometry.slots old.image known.slots.only k h up) (same told) (killed_is_not_erased (mark told));
       };
   made = λ told.
       let known = knows told in

@@ -82,7 +82,8 @@ given_last m Acknowledged gives = absurd gives
 
 module _ (tells : Type 0) where
   module _ (client : ClientState) (budget : ℕ) where
-    reader_gives : (last : Option (List ℕ)) (id : ℕ) (state : BridgeState) (old : MachineState) (event : TurnEvent) (new : MachineState) (m : Machine) → HoldsNone id state → Turns Reader old event new → StandsInStep state old m
+    reader_gives : (last : Option (List ℕ)) (id : ℕ) (state : BridgeState) (old : MachineState) (event : TurnEvent) (new : MachineState) (m : Machine) →
+        HoldsNone id state → Turns Reader old event new → StandsInStep state old m
         → KeepsOrder state (OfBridge (ByReader event)) → IsAtHand last state old → GivesThen last state old (OfBridge (ByReader event)) (after_reader event id (last_of new) state) new
     reader_gives last id Off old event new m none reads paired order held = absurd none
     reader_gives last id (Holds n block) old event new m none reads paired order held = absurd none
@@ -94,10 +95,12 @@ module _ (tells : Type 0) where
         ((λ gives. held), reader_cases (λ state. IsAtHand last state new) event id (last_of new) (Releases n) tt tt (at_hand_on last (Releases n) old new same held))
 
     bridge_gives : (last : Option (List ℕ)) (state : BridgeState) (old : MachineState) (event : BridgeEvent) (next : BridgeState) (left : ℕ) (new : MachineState) (m : Machine)
-        → BridgesMachine tells client budget old state event next left new → StandsInStep state old m → StandsInStep next new (handover_after (OfBridge event) m) → KeepsOrder state (OfBridge event) → IsAtHand last state old
+        → BridgesMachine tells client budget old state event next left new → StandsInStep state old m →
+        StandsInStep next new (handover_after (OfBridge event) m) → KeepsOrder state (OfBridge event) → IsAtHand last state old
         → GivesThen last state old (OfBridge event) next new
     bridge_gives last state old event next left new m turn =
-        elim turn as (λ state event after turn. StandsInStep state old m → StandsInStep after.bridge after.station (handover_after (OfBridge event) m) → KeepsOrder state (OfBridge event) → IsAtHand last state old
+        elim turn as (λ state event after turn. StandsInStep state old m → StandsInStep after.bridge after.station (handover_after (OfBridge event) m) →
+        KeepsOrder state (OfBridge event) → IsAtHand last state old
         → GivesThen last state old (OfBridge event) after.bridge after.station) [
           | TurnsReader id state event new none reads ↦ λ paired behind order held. reader_gives last id state old event new m none reads paired order held
           | Stores id block left new small writes ↦ λ paired behind order held.
@@ -106,7 +109,8 @@ module _ (tells : Type 0) where
           | RunsOut id block at ↦ λ paired behind order held. (tt, tt)
         ]
 
-    turn_gives : (last : Option (List ℕ)) (state : BridgeState) (old : MachineState) (turn : Turn) (next : BridgeState) (new : MachineState) (m : Machine) → IsTurn tells client budget state old turn next new
+    turn_gives : (last : Option (List ℕ)) (state : BridgeState) (old : MachineState) (turn : Turn) (next : BridgeState) (new : MachineState) (m : Machine) →
+        IsTurn tells client budget state old turn next new
         → StandsInStep state old m → StandsInStep next new (handover_after turn m) → KeepsOrder state turn → IsAtHand last state old → GivesThen last state old turn next new
     turn_gives last state old (OfFirmware event) next new m is paired behind order held =
         let same = firmware_same m m.situation in
@@ -114,7 +118,8 @@ module _ (tells : Type 0) where
         (tt, subst (λ (b : BridgeState). IsAtHand last b new) (sym is.0) (at_hand_on last state old new last_is held))
     turn_gives last state old (OfBridge event) next new m is paired behind order held = bridge_gives last state old event next is.0 new m is.1 paired behind order held
 
-    turns_give : (last : Option (List ℕ)) (state : BridgeState) (old : MachineState) (steps : List Step) (next : BridgeState) (new : MachineState) (m : Machine) → AreTurns tells client budget state old steps next new
+    turns_give : (last : Option (List ℕ)) (state : BridgeState) (old : MachineState) (steps : List Step) (next : BridgeState) (new : MachineState) (m : Machine)
+        → AreTurns tells client budget state old steps next new
         → StandsInStep state old m → IsAtHand last state old → GiveStoredBack last state old steps × IsAtHand (stored_behind last state steps) next new
     turns_give last state old [] next new m are paired held =
         (tt, subst (λ (b : BridgeState). IsAtHand last b new) (sym are.0) (subst (IsAtHand last state) (sym are.1) held))
@@ -139,7 +144,8 @@ module _ (tells : Type 0) where
   event_last old (Laid block result) new quiet lays = ap last_of lays.others
   event_last old event new quiet happens = absurd quiet
 
-  happened_at_hand : (last : Option (List ℕ)) (state : BridgeState) (old : MachineState) (line : Line) (words blocks : List (List ℕ)) (new : MachineState) → Happened tells old line words blocks new → NeedsNoBridge state line
+  happened_at_hand : (last : Option (List ℕ)) (state : BridgeState) (old : MachineState) (line : Line) (words blocks : List (List ℕ)) (new : MachineState) →
+      Happened tells old line words blocks new → NeedsNoBridge state line
       → IsAtHand last state old → IsAtHand last state new
   happened_at_hand last state old line words blocks new happened = elim happened as (λ line words blocks new happened. NeedsNoBridge state line → IsAtHand last state old → IsAtHand last state new) [
     | Once line event words new asks happens ↦ λ alone held. at_hand_on last state old new (event_last old event new (once line event words asks).quiet happens) held
@@ -147,7 +153,8 @@ module _ (tells : Type 0) where
     | IsListed blocks left laid ↦ λ alone held. held
   ]
 
-  table_last : (old : MachineState) (other : Option ClientState) (bytes words : List ℕ) (new : MachineState) (other_now : Option ClientState) → GivesTable tells old other bytes words new other_now → last_of new ≡ last_of old
+  table_last : (old : MachineState) (other : Option ClientState) (bytes words : List ℕ) (new : MachineState) (other_now : Option ClientState) →
+      GivesTable tells old other bytes words new other_now → last_of new ≡ last_of old
   table_last old other bytes words new other_now gives = elim gives as (λ words new other_now gives. last_of new ≡ last_of old) [
     | IsNoTable why refused ↦ refl
     | IsNotAttached erst why left new begins attaches reaches ↦ reached_last old new reaches

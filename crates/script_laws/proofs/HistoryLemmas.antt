@@ -21,7 +21,8 @@ use Rattle.apei_script.specs.Words.{Reply}
 use Rattle.erst_client.specs.Commands.{ClientState}
 use Rattle.erst_shadow.specs.ShadowCommands.{shadow_client}
 use Rattle.apei_script.specs.Players.{PlayerState, UsesOwn, UsesShadow, UsesEither, budget_of, GivenNoOther}
-use Rattle.apei_script.specs.Plays.{Plays, Blank, ByClient, GivenTable, OwnTable, GivenShadow, OnMachine, ByTheBridge, OnlyTells, Reset, Power, HasHappened, LinePlayed, names_command, IsOwnLine, played_as}
+use Rattle.apei_script.specs.Plays.{Plays, Blank, ByClient, GivenTable, OwnTable, GivenShadow, OnMachine, ByTheBridge, OnlyTells, Reset, Power, HasHappened}
+use Rattle.apei_script.specs.Plays.{LinePlayed, names_command, IsOwnLine, played_as}
 use Rattle.script_laws.specs.History.{Played, heard_after, Follows, EndInOrder, ShowsLines, ShowsEachLine, AreOwnLines, AreMapped, NoneSaysHardware, AllGoThrough, AlwaysUsesEither}
 use Rattle.script_laws.specs.History.{IsMappedBy}
 use Rattle.apei_script.proofs.BridgeLemmas.{ShowsLine}
@@ -53,7 +54,8 @@ uses_either state own (inr given) = inr (ap (in_use state.own) given)
 
 module _ (tells : Type 0) where
   -- only a table of a line gives another client
-  pub no_other : (counts : List ℕ) (old : PlayerState) (line : Line) (said : List Reply) (blocks : List (List ℕ)) (steps : List Step) (new : PlayerState) → Plays tells counts old (played_as line said blocks steps new)
+  pub no_other : (counts : List ℕ) (old : PlayerState) (line : Line) (said : List Reply) (blocks : List (List ℕ)) (steps : List Step) (new : PlayerState) →
+      Plays tells counts old (played_as line said blocks steps new)
       → IsOwnLine line → GivenNoOther old → GivenNoOther new
   no_other counts old line said blocks steps new plays own given =
       elim plays as (λ one plays. one.left.machine.device.store.layout ≡ old.machine.device.store.layout → IsOwnLine one.line → GivenNoOther one.left) [
@@ -163,7 +165,8 @@ module _ (tells : Type 0) where
     history_goes_on wants counts first played last is =
         let all = one_list wants counts first played last is in (length all.0, (events_are_shown tells told first.machine last.machine all.0 all.1).goes_on)
 
-    pub line_goes_on : (counts : List ℕ) (old : PlayerState) (line : Line) (said : List Reply) (blocks : List (List ℕ)) (steps : List Step) (new : PlayerState) → LinePlayed tells counts old (played_as line said blocks steps new)
+    pub line_goes_on : (counts : List ℕ) (old : PlayerState) (line : Line) (said : List Reply) (blocks : List (List ℕ)) (steps : List Step) (new : PlayerState)
+        → LinePlayed tells counts old (played_as line said blocks steps new)
         → (n : ℕ) × GoesOn n old.machine new.machine
     line_goes_on counts old line said blocks steps new played =
         let happened = played.happened in (length happened.trail, (events_are_shown tells told old.machine new.machine happened.trail happened.happens).goes_on)
@@ -176,8 +179,10 @@ module _ (tells : Type 0) where
         let one = (line_goes_on counts first line.line line.said line.blocks line.steps line.left is.0).1 in
         let more = (history_goes_on wants (heard_after wants line.blocks counts) line.left rest last is.1).1 in
         let image : image_at (told_of last.machine) (changes_of left) ≡ (told_of left).image =
-        image_at-later (told_of left) (told_of last.machine) (changes_of left) more.later (omega arith) ∙ image_at-now (told_of left) (changes_of left) (omega arith) in
-        (ap (shown_by first.machine) image ∙ sym (shown_alike first.machine left (told_of left).image one.equivalent), history_ends wants (heard_after wants line.blocks counts) line.left rest last is.1)
+        image_at-later (told_of left) (told_of last.machine) (changes_of left) more.later (omega arith) ∙ image_at-now (told_of left) (changes_of left) (omega arith) in (
+          ap (shown_by first.machine) image ∙ sym (shown_alike first.machine left (told_of left).image one.equivalent),
+          history_ends wants (heard_after wants line.blocks counts) line.left rest last is.1,
+        )
 
     pub history_in_order : (wants : List (ℕ → Bool)) (counts : List ℕ) (first : PlayerState) (played : List Played) (last : PlayerState) → Follows tells wants counts first played last
         → EndInOrder (changes_of first.machine) played (changes_of last.machine)

@@ -89,7 +89,8 @@ not_behind false P Q e h = h
 
 module _ (tells : Type 0) where
   -- a line made no turn of the bridge, or all of them are its steps
-  pub line_turns : (counts : List ℕ) (old : PlayerState) (line : Line) (said : List Reply) (blocks : List (List ℕ)) (steps : List Step) (new : PlayerState) → Plays tells counts old (played_as line said blocks steps new)
+  pub line_turns : (counts : List ℕ) (old : PlayerState) (line : Line) (said : List Reply) (blocks : List (List ℕ)) (steps : List Step) (new : PlayerState) →
+      Plays tells counts old (played_as line said blocks steps new)
       → (steps ≡ []) ⊎ AreTurns tells old.own (budget_of old) old.bridge old.machine steps new.bridge new.machine
   line_turns counts old line said blocks steps new plays =
       elim plays as (λ one plays. (one.steps ≡ []) ⊎ AreTurns tells old.own (budget_of old) old.bridge old.machine one.steps one.left.bridge one.left.machine) [
@@ -97,13 +98,15 @@ module _ (tells : Type 0) where
         | other ↦ inl refl
       ]
     where
-      of_bridge : (line : Line) (said : List Reply) (blocks : List (List ℕ)) (steps : List Step) (state : BridgeState) (machine : MachineState) → ByBridge tells old line said blocks steps state machine
+      of_bridge : (line : Line) (said : List Reply) (blocks : List (List ℕ)) (steps : List Step) (state : BridgeState) (machine : MachineState) →
+          ByBridge tells old line said blocks steps state machine
           → (steps ≡ []) ⊎ AreTurns tells old.own (budget_of old) old.bridge old.machine steps state machine
-      of_bridge line said blocks steps state machine by = elim by as (λ line said blocks steps state machine by. (steps ≡ []) ⊎ AreTurns tells old.own (budget_of old) old.bridge old.machine steps state machine) [
-        | Enters id none ↦ inl refl
-        | StaysAs id why refuses ↦ inl refl
-        | BridgesTurns letters steps state machine on are sides counted ↦ inr are
-      ]
+      of_bridge line said blocks steps state machine by = elim by as (λ line said blocks steps state machine by. (steps ≡ []) ⊎ AreTurns tells old.own
+          (budget_of old) old.bridge old.machine steps state machine) [
+            | Enters id none ↦ inl refl
+            | StaysAs id why refuses ↦ inl refl
+            | BridgesTurns letters steps state machine on are sides counted ↦ inr are
+          ]
 
   pub machine_then : (counts : List ℕ) (old : PlayerState) (played : Played) → LinePlayed tells counts old played → IsMachine old.machine → IsMachine played.left.machine
   machine_then counts old played line machine = events_keep tells old.machine played.left.machine line.happened.trail line.happened.happens machine
@@ -120,8 +123,10 @@ module _ (tells : Type 0) where
 
 module _ (tells : Type 0) (programs : OwnProgramsRun tells) (told : tells) where
   -- behind a line, and at whatever power lost in it shows
-  keeps_line : (counts : List ℕ) (old : PlayerState) (line : Line) (said : List Reply) (blocks : List (List ℕ)) (steps : List Step) (new : PlayerState) (id : ℕ) (bytes : List ℕ) → IsMachine old.machine
-      → old.own ≡ own_client old.machine → (names_command line ≡ true → UsesEither old) → IsOwnLine line → LinePlayed tells counts old (played_as line said blocks steps new) → Spares id line → SpareTurns id old.bridge old.machine steps
+  keeps_line : (counts : List ℕ) (old : PlayerState) (line : Line) (said : List Reply) (blocks : List (List ℕ)) (steps : List Step) (new : PlayerState) (id : ℕ)
+      (bytes : List ℕ) → IsMachine old.machine
+      → old.own ≡ own_client old.machine → (names_command line ≡ true → UsesEither old) → IsOwnLine line →
+      LinePlayed tells counts old (played_as line said blocks steps new) → Spares id line → SpareTurns id old.bridge old.machine steps
       → IsStoredAs id bytes (records_of old.machine)
       → IsStoredAs id bytes (records_of new.machine) × ((s : ℕ) (shown : Records) → ShowsLine s old line steps shown → IsStoredAs id bytes shown)
   keeps_line counts old line said blocks [] new id bytes machine own either is played spares spared there =
@@ -144,7 +149,8 @@ module _ (tells : Type 0) (programs : OwnProgramsRun tells) (told : tells) where
         | inr are ↦ kept_turns tells programs told old.own (budget_of old) old.bridge old.machine (step ∷ rest) new.bridge new.machine id bytes own machine are spared there
       ]
 
-  pub kept_lines : (wants : List (ℕ → Bool)) (counts : List ℕ) (first : PlayerState) (played : List Played) (last : PlayerState) → IsMachine first.machine → first.own ≡ own_client first.machine → GivenNoOther first
+  pub kept_lines : (wants : List (ℕ → Bool)) (counts : List ℕ) (first : PlayerState) (played : List Played) (last : PlayerState) → IsMachine first.machine →
+      first.own ≡ own_client first.machine → GivenNoOther first
       → AreOwnLines played → Follows tells wants counts first played last → (s id : ℕ) (bytes : List ℕ) → SpareLines s id first played → IsStoredAs id bytes (records_of first.machine)
       → (shown : Records) → ShowsLines s first played shown → IsStoredAs id bytes shown
   kept_lines wants counts first [] last machine own none lines follows s id bytes spares there shown shows = subst (IsStoredAs id bytes) (sym shows) there
@@ -152,7 +158,8 @@ module _ (tells : Type 0) (programs : OwnProgramsRun tells) (told : tells) where
       let keeps = keeps_line counts first line.line line.said line.blocks line.steps line.left id bytes machine own (λ _. uses_either first own none) lines.0 follows.0 spares.0 spares.1 there in
       elim (cases_lt s (changes_of line.left.machine)) [
         | inl under_way ↦ keeps.1 s shown (not_behind (nat_le (changes_of line.left.machine) s) _ _ (lt-leb (changes_of line.left.machine) s under_way) shows)
-        | inr ended ↦ kept_lines wants (heard_after wants line.blocks counts) line.left rest last (machine_then tells counts first line follows.0 machine) (own_then tells counts first line follows.0 own)
+        | inr ended ↦ kept_lines wants (heard_after wants line.blocks counts) line.left rest last (machine_then tells counts first line follows.0 machine)
+            (own_then tells counts first line follows.0 own)
             (other_then tells counts first line follows.0 lines.0 none) lines.1 follows.1 s id bytes (spares.2 ended) keeps.0 shown
             (on_behind (nat_le (changes_of line.left.machine) s) _ _ (le-leb (changes_of line.left.machine) s ended) shows)
       ]
@@ -160,7 +167,8 @@ module _ (tells : Type 0) (programs : OwnProgramsRun tells) (told : tells) where
   -- the blocks that the turns of one line stored
   blocks_of_line : (counts : List ℕ) (old : PlayerState) (line : Played) (s : ℕ) (shown : Records) (spared : ℕ → Type 0) → IsMachine old.machine → old.own ≡ own_client old.machine
       → LinePlayed tells counts old line
-      → (changes_of old.machine ≤ s → ShowsLine s old line.line line.steps shown ⊎ ((id : ℕ) (bytes : List ℕ) → spared id → IsStoredAs id bytes (records_of line.left.machine) → IsStoredAs id bytes shown))
+      → (changes_of old.machine ≤ s → ShowsLine s old line.line line.steps shown ⊎ ((id : ℕ) (bytes : List ℕ) → spared id →
+      IsStoredAs id bytes (records_of line.left.machine) → IsStoredAs id bytes shown))
       → (steps : List Step) → line.steps ≡ steps → KeepsBlocks spared s old.bridge old.machine steps shown
   blocks_of_line counts old line s shown spared machine own played either [] is = tt
   blocks_of_line counts old line s shown spared machine own played either (step ∷ rest) is =
@@ -174,7 +182,8 @@ module _ (tells : Type 0) (programs : OwnProgramsRun tells) (told : tells) where
             ])
       ]
 
-  pub all_kept : (wants : List (ℕ → Bool)) (counts : List ℕ) (first : PlayerState) (played : List Played) (last : PlayerState) → IsMachine first.machine → first.own ≡ own_client first.machine → GivenNoOther first
+  pub all_kept : (wants : List (ℕ → Bool)) (counts : List ℕ) (first : PlayerState) (played : List Played) (last : PlayerState) → IsMachine first.machine →
+      first.own ≡ own_client first.machine → GivenNoOther first
       → AreOwnLines played → Follows tells wants counts first played last → (s : ℕ) (shown : Records) → (changes_of first.machine ≤ s → ShowsLines s first played shown) → KeepsAll s first played shown
   all_kept wants counts first [] last machine own none lines follows s shown shows = tt
   all_kept wants counts first (line ∷ rest) last machine own none lines follows s shown shows =

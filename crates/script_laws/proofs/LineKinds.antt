@@ -27,7 +27,8 @@ use Rattle.script_text.specs.ScriptGrammar.{Line, blank, write, read, clear, cou
 use Rattle.erst_shadow.specs.ShadowTables.{shadow_count}
 use Rattle.erst_shadow.specs.ShadowCommands.{shadow_client}
 use Rattle.apei_script.specs.Players.{PlayerState, client_of, budget_of, asker_of}
-use Rattle.apei_script.specs.Words.{Reply, said_at, refused, words_of_write, words_of_read, words_of_clear, words_of_count, words_of_next, words_of_dummy, words_of_action, words_of_table, words_of_turns, words_of_heard, words_of_block}
+use Rattle.apei_script.specs.Words.{Reply, said_at, refused, words_of_write, words_of_read, words_of_clear, words_of_count, words_of_next, words_of_dummy}
+use Rattle.apei_script.specs.Words.{words_of_action, words_of_table, words_of_turns, words_of_heard, words_of_block}
 use Rattle.apei_script.specs.Asked.{READ_BUFFER, Asked, WritesRecord, ReadsRecord, ClearsRecord, CountsRecords, FindsNext, WritesDummy, RunsAction}
 use Rattle.apei_script.specs.Tables.{ATTACH_STEPS, BeginsWith, GivesTable, IsNoTable, IsNotAttached, IsAttached}
 use Rattle.apei_script.proofs.ShadowGiving.{GivesShadow}
@@ -54,11 +55,14 @@ module _ (tells : Type 0) where
   -- what was asked of a client
   abbrev pub AskedBy : ClientState → ℕ → MachineState → Line → List ℕ → MachineState → Type 0
   AskedBy client steps old (write hex) words new =
-      (bytes : List ℕ) × (result : Result (Unit {0}) ClientError) × (left : ℕ) × (decode_of hex ≡ Ok bytes) × (words ≡ words_of_write bytes result) × Writes (Allows tells) client bytes steps old result left new
+      (bytes : List ℕ) × (result : Result (Unit {0}) ClientError) × (left : ℕ) × (decode_of hex ≡ Ok bytes) × (words ≡ words_of_write bytes result) × Writes
+      (Allows tells) client bytes steps old result left new
   AskedBy client steps old (read id) words new =
-      (out : List ℕ) × (after : List ℕ) × (result : Result ℕ ClientError) × (left : ℕ) × (length out ≡ READ_BUFFER) × (words ≡ words_of_read after result) × Reads (Allows tells) client id out steps old result after left new
+      (out : List ℕ) × (after : List ℕ) × (result : Result ℕ ClientError) × (left : ℕ) × (length out ≡ READ_BUFFER) × (words ≡ words_of_read after result) ×
+      Reads (Allows tells) client id out steps old result after left new
   AskedBy client steps old (clear id) words new =
-      (result : Result (Unit {0}) ClientError) × (left : ℕ) × (words ≡ words_of_clear id result) × Sequence (Allows tells) client.table.entries client.timings (clear_requests id) steps old result left new
+      (result : Result (Unit {0}) ClientError) × (left : ℕ) × (words ≡ words_of_clear id result) × Sequence (Allows tells) client.table.entries client.timings
+      (clear_requests id) steps old result left new
   AskedBy client steps old count words new =
       (result : Result ℕ ClientError) × (left : ℕ) × (words ≡ words_of_count result) × Counts (Allows tells) client.table.entries steps old result left new
   AskedBy client steps old next words new =
@@ -74,7 +78,8 @@ module _ (tells : Type 0) where
   HappenedBy old (turns letters) said blocks new =
       (events : List TurnEvent) × (said ≡ map words_of_block blocks ++ words_of_turns events ∷ []) × TurnsBy old letters events blocks new
   HappenedBy old bert said blocks new =
-      (listed : List (List ℕ)) × (left : ℕ) × (said ≡ map words_of_block listed ++ (codes "bert " ++ decimal (length listed)) ∷ []) × (blocks ≡ []) × (new ≡ old) × IsLaidOut listed left old.memory.region
+      (listed : List (List ℕ)) × (left : ℕ) × (said ≡ map words_of_block listed ++ (codes "bert " ++ decimal (length listed)) ∷ []) × (blocks ≡ []) ×
+      (new ≡ old) × IsLaidOut listed left old.memory.region
   HappenedBy old line said blocks new = ⊥
 
   -- a table that was given, and what it came to
@@ -121,7 +126,8 @@ module _ (tells : Type 0) where
 
   -- the bridge was turned on, or not
   pub data Entered (old : PlayerState) (id : ℕ) (said : List Reply) (blocks : List (List ℕ)) (new : PlayerState) : Type 0 where
-    TurnedOn : bridge_refusal old id ≡ None → Left said blocks new (said_at (changes_in old.machine) ((codes "bridge " ++ decimal id) ∷ [])) [] (record old { bridge = Awaits id }) → Entered old id said blocks new
+    TurnedOn : bridge_refusal old id ≡ None → Left said blocks new (said_at (changes_in old.machine) ((codes "bridge " ++ decimal id) ∷ [])) []
+        (record old { bridge = Awaits id }) → Entered old id said blocks new
     NotOn : (why : List ℕ) → bridge_refusal old id ≡ Some why → Left said blocks new (said_at (changes_in old.machine) (refused why ∷ [])) [] old → Entered old id said blocks new
 
   abbrev pub ByOneEvent : PlayerState → Line → List Reply → List (List ℕ) → PlayerState → Type 0
@@ -186,29 +192,34 @@ module _ (tells : Type 0) where
       (subst (λ (asks_for : Bool). PlaysAs None asks_for old line (said_at (changes_in machine) (words ∷ [])) [] (with_machine machine old)) (sym one.alone)
       (event, words, machine, asks, happens, as_it_is _ _ _))
 
-  by_telling : (counts : List ℕ) (old : PlayerState) (line : Line) (words : List ℕ) → words_told counts old line ≡ Some words → PlaysBy counts old line (said_at (changes_in old.machine) (words ∷ [])) [] old
+  by_telling : (counts : List ℕ) (old : PlayerState) (line : Line) (words : List ℕ) → words_told counts old line ≡ Some words →
+      PlaysBy counts old line (said_at (changes_in old.machine) (words ∷ [])) [] old
   by_telling counts old line words told =
       subst (λ (words_now : Option (List ℕ)). PlaysAs words_now (asks_once line) old line (said_at (changes_in old.machine) (words ∷ [])) [] old) (sym told) (as_it_is _ _ _)
 
-  by_itself : (counts : List ℕ) (old : PlayerState) (line : Line) (words blocks : List (List ℕ)) (machine : MachineState) → NeedsNoBridge old.bridge line → Happened tells old.machine line words blocks machine
+  by_itself : (counts : List ℕ) (old : PlayerState) (line : Line) (words blocks : List (List ℕ)) (machine : MachineState) → NeedsNoBridge old.bridge line →
+      Happened tells old.machine line words blocks machine
       → PlaysBy counts old line (said_at (changes_in machine) words) blocks (with_machine machine old)
-  by_itself counts old line words blocks machine alone happened = elim happened as (λ line words blocks machine happened. NeedsNoBridge old.bridge line → PlaysBy counts old line (said_at (changes_in machine) words) blocks (with_machine machine old)) [
-    | Once line event words new asks happens ↦ λ alone. by_event counts old line event words new asks happens
-    | Turn letters events blocks new turned ↦ λ alone.
-        inl (alone, (map words_of_block blocks ++ words_of_turns events ∷ [], blocks, new, (events, refl, turns_by old.machine letters events blocks new turned), as_it_is _ _ _))
-    | IsListed blocks left laid ↦ λ alone. (map words_of_block blocks ++ (codes "bert " ++ decimal (length blocks)) ∷ [], [], old.machine, (blocks, left, refl, refl, refl, laid), as_it_is _ _ _)
-  ] alone
+  by_itself counts old line words blocks machine alone happened = elim happened as (λ line words blocks machine happened. NeedsNoBridge old.bridge line →
+      PlaysBy counts old line (said_at (changes_in machine) words) blocks (with_machine machine old)) [
+        | Once line event words new asks happens ↦ λ alone. by_event counts old line event words new asks happens
+        | Turn letters events blocks new turned ↦ λ alone.
+            inl (alone, (map words_of_block blocks ++ words_of_turns events ∷ [], blocks, new, (events, refl, turns_by old.machine letters events blocks new turned), as_it_is _ _ _))
+        | IsListed blocks left laid ↦ λ alone. (map words_of_block blocks ++ (codes "bert " ++ decimal (length blocks)) ∷ [], [], old.machine, (blocks, left, refl, refl, refl, laid), as_it_is _ _ _)
+      ] alone
 
   by_bridge : (counts : List ℕ) (old : PlayerState) (line : Line) (said : List Reply) (blocks : List (List ℕ)) (steps : List Step) (bridge_now : BridgeState) (machine : MachineState)
       → ByBridge tells old line said blocks steps bridge_now machine → PlaysBy counts old line said blocks (record old { machine = machine; bridge = bridge_now })
-  by_bridge counts old line said blocks steps bridge_now machine by = elim by as (λ line said blocks steps bridge_now machine by. PlaysBy counts old line said blocks (record old { machine = machine; bridge = bridge_now })) [
-    | Enters id none ↦ TurnedOn none (as_it_is _ _ _)
-    | StaysAs id why refuses ↦ NotOn why refuses (as_it_is _ _ _)
-    | BridgesTurns letters steps bridge_now machine on are sides counted ↦
-        inr (record { steps = steps; bridge_now = bridge_now; machine = machine; on = on; are_turns = are; sides = sides; left = as_it_is _ _ _ })
-  ]
+  by_bridge counts old line said blocks steps bridge_now machine by = elim by as (λ line said blocks steps bridge_now machine by. PlaysBy counts old line said
+      blocks (record old { machine = machine; bridge = bridge_now })) [
+        | Enters id none ↦ TurnedOn none (as_it_is _ _ _)
+        | StaysAs id why refuses ↦ NotOn why refuses (as_it_is _ _ _)
+        | BridgesTurns letters steps bridge_now machine on are sides counted ↦
+            inr (record { steps = steps; bridge_now = bridge_now; machine = machine; on = on; are_turns = are; sides = sides; left = as_it_is _ _ _ })
+      ]
 
-  pub plays_by : (counts : List ℕ) (old : PlayerState) (line : Line) (said : List Reply) (blocks : List (List ℕ)) (steps : List Step) (new : PlayerState) → Plays tells counts old (played_as line said blocks steps new) → PlaysBy counts old line said blocks new
+  pub plays_by : (counts : List ℕ) (old : PlayerState) (line : Line) (said : List Reply) (blocks : List (List ℕ)) (steps : List Step) (new : PlayerState) →
+      Plays tells counts old (played_as line said blocks steps new) → PlaysBy counts old line said blocks new
   plays_by counts old line said blocks steps new plays = elim plays as (λ one plays. PlaysBy counts old one.line one.said one.blocks one.left) [
     | Blank ↦ as_it_is _ _ _
     | ByClient line words machine commanded ↦ by_its_client counts old line words machine commanded.0

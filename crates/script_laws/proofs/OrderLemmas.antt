@@ -77,8 +77,14 @@ idle_taken m Acknowledged is idle = let t = is.taken in omega arith
 enters_step : (old : PlayerState) (id : ℕ) → IsMachine old.machine → bridge_refusal old id ≡ None → (m : Machine) × StandsInStep (Awaits id) old.machine m
 enters_step old id machine none =
     let m = machine.stands.0 in
-    let stands = machine.stands.1 in
-    (m, record { stands = stands; step = idle_taken m m.situation stands.state.holds (ap is_idle stands.situation ∙ not_refused (is_reserved id) old.bridge (is_idle old.machine.handover.situation) _ _ _ none) })
+    let stands = machine.stands.1 in (
+      m,
+      record {
+        stands = stands;
+        step = idle_taken m m.situation stands.state.holds (ap is_idle stands.situation ∙ not_refused (is_reserved id) old.bridge
+            (is_idle old.machine.handover.situation) _ _ _ none);
+      },
+    )
   where
     not_refused : (a : Bool) (state : BridgeState) (c : Bool) (x y z : List ℕ)
         → (if a then Some x else elim state [ Off ↦ if not c then Some z else None | on ↦ Some y ]) ≡ None → c ≡ true
@@ -103,7 +109,8 @@ module _ (tells : Type 0) where
       inr (pair.0, subst (λ (s : MachineState). StandsInStep state s pair.0) (sym lays.others) (record { stands = pair.1.stands; step = pair.1.step }))
   event_step state old event new quiet happens step = absurd quiet
 
-  happened_step : (state : BridgeState) (old : MachineState) (line : Line) (words blocks : List (List ℕ)) (new : MachineState) → Happened tells old line words blocks new → NeedsNoBridge state line → InStep state old
+  happened_step : (state : BridgeState) (old : MachineState) (line : Line) (words blocks : List (List ℕ)) (new : MachineState) →
+      Happened tells old line words blocks new → NeedsNoBridge state line → InStep state old
       → InStep state new
   happened_step state old line words blocks new happened = elim happened as (λ line words blocks new happened. NeedsNoBridge state line → InStep state old → InStep state new) [
     | Once line event words new asks happens ↦ λ alone step. event_step state old event new (once line event words asks).quiet happens step

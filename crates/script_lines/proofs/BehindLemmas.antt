@@ -48,23 +48,28 @@ others codes_of text [] = []
 others codes_of text (word ∷ words) = if clash text (codes_of word) then others codes_of text words else word ∷ others codes_of text words
 
 -- what begins with a text is among the words that don't clash with it
-pub keeps : {W : Type 0} (codes_of : W → List ℕ) (Follows : W → List ℕ → Type 0) (w u rest : List ℕ) (k : ℕ) (words : List W) → length w ≤ k → IsOne codes_of Follows words (take k (w ++ u) ++ rest) → IsOne codes_of Follows (others codes_of w words) (take k (w ++ u) ++ rest)
+pub keeps : {W : Type 0} (codes_of : W → List ℕ) (Follows : W → List ℕ → Type 0) (w u rest : List ℕ) (k : ℕ) (words : List W) → length w ≤ k →
+    IsOne codes_of Follows words (take k (w ++ u) ++ rest) → IsOne codes_of Follows (others codes_of w words) (take k (w ++ u) ++ rest)
 keeps codes_of Follows w u rest k [] long one = one
 keeps codes_of Follows w u rest k (word ∷ words) long one = more (keeps codes_of Follows w u rest k words long) (clash w (codes_of word)) refl one
   where
     more : (IsOne codes_of Follows words (take k (w ++ u) ++ rest) → IsOne codes_of Follows (others codes_of w words) (take k (w ++ u) ++ rest))
-        → (t : Bool) → clash w (codes_of word) ≡ t → IsBehind codes_of Follows word (take k (w ++ u) ++ rest) ⊎ IsOne codes_of Follows words (take k (w ++ u) ++ rest) → IsOne codes_of Follows (others codes_of w (word ∷ words)) (take k (w ++ u) ++ rest)
+        → (t : Bool) → clash w (codes_of word) ≡ t → IsBehind codes_of Follows word (take k (w ++ u) ++ rest) ⊎ IsOne codes_of Follows words
+        (take k (w ++ u) ++ rest) → IsOne codes_of Follows (others codes_of w (word ∷ words)) (take k (w ++ u) ++ rest)
     more again true is (inl behind) = absurd (let h : k < length w = clash_within w (codes_of word) u behind.rest rest k is behind.is in omega arith)
     more again true is (inr one) = subst (λ (t : Bool). IsOne codes_of Follows (cond t (others codes_of w words) (word ∷ others codes_of w words)) (take k (w ++ u) ++ rest)) (sym is) (again one)
     more again false is (inl behind) = subst (λ (t : Bool). IsOne codes_of Follows (cond t (others codes_of w words) (word ∷ others codes_of w words)) (take k (w ++ u) ++ rest)) (sym is) (inl behind)
-    more again false is (inr one) = subst (λ (t : Bool). IsOne codes_of Follows (cond t (others codes_of w words) (word ∷ others codes_of w words)) (take k (w ++ u) ++ rest)) (sym is) (inr (again one))
+    more again false is (inr one) = subst (λ (t : Bool). IsOne codes_of Follows (cond t (others codes_of w words) (word ∷ others codes_of w words))
+        (take k (w ++ u) ++ rest)) (sym is) (inr (again one))
 
 -- they are among codes_of Follows all
-pub among : {W : Type 0} (codes_of : W → List ℕ) (Follows : W → List ℕ → Type 0) (w text : List ℕ) (words : List W) → IsOne codes_of Follows (others codes_of w words) text → IsOne codes_of Follows words text
+pub among : {W : Type 0} (codes_of : W → List ℕ) (Follows : W → List ℕ → Type 0) (w text : List ℕ) (words : List W) →
+    IsOne codes_of Follows (others codes_of w words) text → IsOne codes_of Follows words text
 among codes_of Follows w text [] one = one
 among codes_of Follows w text (word ∷ words) one = more (among codes_of Follows w text words) (clash w (codes_of word)) refl
   where
-    split : (IsOne codes_of Follows (others codes_of w words) text → IsOne codes_of Follows words text) → IsBehind codes_of Follows word text ⊎ IsOne codes_of Follows (others codes_of w words) text → IsOne codes_of Follows (word ∷ words) text
+    split : (IsOne codes_of Follows (others codes_of w words) text → IsOne codes_of Follows words text) → IsBehind codes_of Follows word text ⊎ IsOne codes_of
+        Follows (others codes_of w words) text → IsOne codes_of Follows (word ∷ words) text
     split again (inl behind) = inl behind
     split again (inr one) = inr (again one)
 
@@ -95,7 +100,8 @@ abbrev pub IsAlone : {W : Type 0} (codes_of : W → List ℕ) → List W → W �
 IsAlone codes_of words word = others codes_of (codes_of word) words ≡ word ∷ []
 
 -- a text that begins with a word goes along with the lines as far as what is behind the word goes along with what may follow
-pub reach_behind : {W : Type 0} (codes_of : W → List ℕ) (Follows : W → List ℕ → Type 0) (words : List W) (word : W) (u : List ℕ) (reach : ℕ) → IsAlone codes_of words word → Breaks (Follows word) u reach → Breaks (IsOne codes_of Follows words) (codes_of word ++ u) (length (codes_of word) + reach)
+pub reach_behind : {W : Type 0} (codes_of : W → List ℕ) (Follows : W → List ℕ → Type 0) (words : List W) (word : W) (u : List ℕ) (reach : ℕ) →
+    IsAlone codes_of words word → Breaks (Follows word) u reach → Breaks (IsOne codes_of Follows words) (codes_of word ++ u) (length (codes_of word) + reach)
 reach_behind {W = W} codes_of Follows words word u reach alone breaks = record {
   outside = λ one. breaks.outside (whole one);
   within = let h = breaks.within in let l : length (codes_of word ++ u) ≡ length (codes_of word) + length u = length-append (codes_of word) u in omega arith;
@@ -118,7 +124,8 @@ reach_behind {W = W} codes_of Follows words word u reach alone breaks = record {
     only text (inl behind) = behind
     only text (inr none) = absurd none
 
-    single : (rest : List ℕ) (k : ℕ) → length (codes_of word) ≤ k → IsOne codes_of Follows words (take k (codes_of word ++ u) ++ rest) → IsBehind codes_of Follows word (take k (codes_of word ++ u) ++ rest)
+    single : (rest : List ℕ) (k : ℕ) → length (codes_of word) ≤ k → IsOne codes_of Follows words (take k (codes_of word ++ u) ++ rest) →
+        IsBehind codes_of Follows word (take k (codes_of word ++ u) ++ rest)
     single rest k long one =
         only (take k (codes_of word ++ u) ++ rest)
         (subst (λ (some : List W). IsOne codes_of Follows some (take k (codes_of word ++ u) ++ rest)) alone (keeps codes_of Follows (codes_of word) u rest k words long one))
@@ -136,6 +143,7 @@ reach_behind {W = W} codes_of Follows words word u reach alone breaks = record {
         let l : length (codes_of word ++ u) ≡ length (codes_of word) + length u = length-append (codes_of word) u in
         let all : take (length (codes_of word) + length u) (codes_of word ++ u) ≡ codes_of word ++ u = take_all (length (codes_of word) + length u) (codes_of word ++ u) (omega arith) in
         let text : take (length (codes_of word) + length u) (codes_of word ++ u) ++ [] ≡ codes_of word ++ u = append-nil (take (length (codes_of word) + length u) (codes_of word ++ u)) ∙ all in
-        let got : Follows word (take (length (codes_of word) + length u - length (codes_of word)) u ++ []) = front (length (codes_of word) + length u) [] (omega arith) (subst (λ (t : List ℕ). IsOne codes_of Follows words t) (sym text) one) in
+        let got : Follows word (take (length (codes_of word) + length u - length (codes_of word)) u ++ []) = front (length (codes_of word) + length u) []
+        (omega arith) (subst (λ (t : List ℕ). IsOne codes_of Follows words t) (sym text) one) in
         let n : length (codes_of word) + length u - length (codes_of word) ≡ length u = omega arith in
         subst (λ (t : List ℕ). Follows word t) (append-nil (take (length (codes_of word) + length u - length (codes_of word)) u) ∙ ap (λ (k : ℕ). take k u) n ∙ take_all (length u) u (omega arith)) got

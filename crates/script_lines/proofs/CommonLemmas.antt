@@ -27,7 +27,8 @@ common_length-front [] text = refl
 common_length-front (a ∷ word) [] = refl
 common_length-front (a ∷ word) (b ∷ text) = more (cases_Bool (a == b)) (common_length-front word text)
   where
-    more : ((a == b) ≡ true) ⊎ ((a == b) ≡ false) → take (common_length word text) text ++ drop (common_length word text) word ≡ word → take (common_length (a ∷ word) (b ∷ text)) (b ∷ text) ++ drop (common_length (a ∷ word) (b ∷ text)) (a ∷ word) ≡ a ∷ word
+    more : ((a == b) ≡ true) ⊎ ((a == b) ≡ false) → take (common_length word text) text ++ drop (common_length word text) word ≡ word →
+        take (common_length (a ∷ word) (b ∷ text)) (b ∷ text) ++ drop (common_length (a ∷ word) (b ∷ text)) (a ∷ word) ≡ a ∷ word
     more (inl same) h =
         ap (λ (k : ℕ). take k (b ∷ text) ++ drop k (a ∷ word)) (same_head a b word text (eqb-true a b same))
         ∙ ap (λ (xs : List ℕ). b ∷ xs) h ∙ ap (λ (x : ℕ). x ∷ word) (sym (eqb-true a b same))
@@ -106,7 +107,8 @@ either_breaks A B text a b in_a in_b = record {
     later k far within rest (inr is) = in_b.longest k (omega arith) within (rest, is)
 
 -- a loop stops where the text ends or differs
-pub common_length-stops : (word text : List ℕ) (i : ℕ) → i < length word → common_length word text ≡ i + common_length (drop i word) (drop i text) → (length text ≤ i) ⊎ (get_or text i 0 ≡ get_or word i 0 → ⊥) → i ≡ common_length word text
+pub common_length-stops : (word text : List ℕ) (i : ℕ) → i < length word → common_length word text ≡ i + common_length (drop i word) (drop i text) →
+    (length text ≤ i) ⊎ (get_or text i 0 ≡ get_or word i 0 → ⊥) → i ≡ common_length word text
 common_length-stops word text i within before (inl end) =
     let none : common_length (drop i word) (drop i text) ≡ 0 = ap (common_length (drop i word)) (drop_all i text end) ∙ nothing (drop i word) in omega arith
   where

@@ -38,7 +38,8 @@ language codes_of Follows words IsValid text_of alone sample blank line_behind l
   to_word = λ text (line, valid, is). line_is line valid text is;
 }
 
-line_of_one : {W : Type 0} (codes_of : W → List ℕ) (Follows : W → List ℕ → Type 0) (words : List W) (IsLine : List ℕ → Type 0) (lang : IsLanguage codes_of Follows words IsLine) (some : List W) (text : List ℕ) → IsOne codes_of Follows some text → IsLine text
+line_of_one : {W : Type 0} (codes_of : W → List ℕ) (Follows : W → List ℕ → Type 0) (words : List W) (IsLine : List ℕ → Type 0)
+    (lang : IsLanguage codes_of Follows words IsLine) (some : List W) (text : List ℕ) → IsOne codes_of Follows some text → IsLine text
 line_of_one codes_of Follows words IsLine lang [] text one = absurd one
 line_of_one codes_of Follows words IsLine lang (word ∷ some) text (inl behind) = subst IsLine (sym behind.is) (lang.from_word word behind.rest behind.follows)
 line_of_one codes_of Follows words IsLine lang (word ∷ some) text (inr one) = line_of_one codes_of Follows words IsLine lang some text one
@@ -51,7 +52,9 @@ not_empty text rest k some within e =
     let l'' : length (take k text ++ rest) ≡ 0 = ap length e in
     omega arith
 
-begins_one : {W : Type 0} (codes_of : W → List ℕ) (Follows : W → List ℕ → Type 0) (words : List W) (IsLine : List ℕ → Type 0) (lang : IsLanguage codes_of Follows words IsLine) (text : List ℕ) (k : ℕ) → 0 < k → k ≤ length text → (rest : List ℕ) → IsLine (take k text ++ rest) → IsOne codes_of Follows words (take k text ++ rest)
+begins_one : {W : Type 0} (codes_of : W → List ℕ) (Follows : W → List ℕ → Type 0) (words : List W) (IsLine : List ℕ → Type 0)
+    (lang : IsLanguage codes_of Follows words IsLine) (text : List ℕ) (k : ℕ) → 0 < k → k ≤ length text → (rest : List ℕ) → IsLine (take k text ++ rest) →
+    IsOne codes_of Follows words (take k text ++ rest)
 begins_one codes_of Follows words IsLine lang text k some within rest is = choose (lang.to_word (take k text ++ rest) is)
   where
     choose : (take k text ++ rest ≡ []) ⊎ IsOne codes_of Follows words (take k text ++ rest) → IsOne codes_of Follows words (take k text ++ rest)
@@ -59,7 +62,9 @@ begins_one codes_of Follows words IsLine lang text k some within rest is = choos
     choose (inr one) = one
 
 -- how far a text goes along with lines that words begin
-pub line_breaks : {W : Type 0} (codes_of : W → List ℕ) (Follows : W → List ℕ → Type 0) (words : List W) (IsLine : List ℕ → Type 0) (lang : IsLanguage codes_of Follows words IsLine) (text : List ℕ) (reach : ℕ) → 1 ≤ length text → Breaks (IsOne codes_of Follows words) text reach → Breaks IsLine text reach
+pub line_breaks : {W : Type 0} (codes_of : W → List ℕ) (Follows : W → List ℕ → Type 0) (words : List W) (IsLine : List ℕ → Type 0)
+    (lang : IsLanguage codes_of Follows words IsLine) (text : List ℕ) (reach : ℕ) → 1 ≤ length text → Breaks (IsOne codes_of Follows words) text reach →
+    Breaks IsLine text reach
 line_breaks codes_of Follows words IsLine lang text reach some breaks = record {
   outside = λ is. outside (lang.to_word text is);
   within = breaks.within;
@@ -72,23 +77,30 @@ line_breaks codes_of Follows words IsLine lang text reach some breaks = record {
     outside (inr one) = breaks.outside one
 
 -- one word more is tried
-pub passed_more : {W : Type 0} (codes_of : W → List ℕ) (text : List ℕ) (reach reach' i : ℕ) (word d : W) (words : List W) → i < length words → word ≡ get_or words i d → HasNoKeyword codes_of text reach (take i words)
-    → common_length (codes_of word) text < length (codes_of word) → (reach' ≡ reach) × (common_length (codes_of word) text ≤ reach) ⊎ (reach' ≡ common_length (codes_of word) text) × (reach < common_length (codes_of word) text) → HasNoKeyword codes_of text reach' (take (i + 1) words)
+pub passed_more : {W : Type 0} (codes_of : W → List ℕ) (text : List ℕ) (reach reach' i : ℕ) (word d : W) (words : List W) → i < length words →
+    word ≡ get_or words i d → HasNoKeyword codes_of text reach (take i words)
+    → common_length (codes_of word) text < length (codes_of word) → (reach' ≡ reach) × (common_length (codes_of word) text ≤ reach) ⊎
+    (reach' ≡ common_length (codes_of word) text) × (reach < common_length (codes_of word) text) → HasNoKeyword codes_of text reach' (take (i + 1) words)
 passed_more {W = W} codes_of text reach reach' i word d words within is before other (inl (same, low)) = record {
   each = All-more (λ word. (common_length (codes_of word) text < length (codes_of word)) × (common_length (codes_of word) text ≤ reach')) words i d within
-      (All-weaker (λ word. (common_length (codes_of word) text < length (codes_of word)) × (common_length (codes_of word) text ≤ reach)) (λ word. (common_length (codes_of word) text < length (codes_of word)) × (common_length (codes_of word) text ≤ reach')) (λ word h. (h.0, let low = h.1 in omega arith)) (take i words) before.each)
+      (All-weaker (λ word. (common_length (codes_of word) text < length (codes_of word)) × (common_length (codes_of word) text ≤ reach))
+      (λ word. (common_length (codes_of word) text < length (codes_of word)) × (common_length (codes_of word) text ≤ reach'))
+      (λ word h. (h.0, let low = h.1 in omega arith)) (take i words) before.each)
       (subst (λ (word : W). (common_length (codes_of word) text < length (codes_of word)) × (common_length (codes_of word) text ≤ reach')) is (other, omega arith));
   some = subst (λ (k : ℕ). (k ≡ 0) ⊎ ((word : W) × (common_length (codes_of word) text ≡ k))) (sym same) before.some;
 }
 passed_more {W = W} codes_of text reach reach' i word d words within is before other (inr (same, high)) = record {
   each = All-more (λ word. (common_length (codes_of word) text < length (codes_of word)) × (common_length (codes_of word) text ≤ reach')) words i d within
-      (All-weaker (λ word. (common_length (codes_of word) text < length (codes_of word)) × (common_length (codes_of word) text ≤ reach)) (λ word. (common_length (codes_of word) text < length (codes_of word)) × (common_length (codes_of word) text ≤ reach')) (λ word h. (h.0, let low = h.1 in omega arith)) (take i words) before.each)
+      (All-weaker (λ word. (common_length (codes_of word) text < length (codes_of word)) × (common_length (codes_of word) text ≤ reach))
+      (λ word. (common_length (codes_of word) text < length (codes_of word)) × (common_length (codes_of word) text ≤ reach'))
+      (λ word h. (h.0, let low = h.1 in omega arith)) (take i words) before.each)
       (subst (λ (word : W). (common_length (codes_of word) text < length (codes_of word)) × (common_length (codes_of word) text ≤ reach')) is (other, omega arith));
   some = inr (word, sym same);
 }
 
 -- no word goes on with a longer beginning
-none_goes : {W : Type 0} (codes_of : W → List ℕ) (Follows : W → List ℕ → Type 0) (text rest : List ℕ) (reach k : ℕ) (words : List W) → ByRecursion (λ word. (common_length (codes_of word) text < length (codes_of word)) × (common_length (codes_of word) text ≤ reach)) words
+none_goes : {W : Type 0} (codes_of : W → List ℕ) (Follows : W → List ℕ → Type 0) (text rest : List ℕ) (reach k : ℕ) (words : List W) →
+    ByRecursion (λ word. (common_length (codes_of word) text < length (codes_of word)) × (common_length (codes_of word) text ≤ reach)) words
     → reach < k → k ≤ length text → IsOne codes_of Follows words (take k text ++ rest) → ⊥
 none_goes codes_of Follows text rest reach k [] each far within one = one
 none_goes codes_of Follows text rest reach k (word ∷ words) each far within (inr one) = none_goes codes_of Follows text rest reach k words each.1 far within one
@@ -98,7 +110,9 @@ none_goes codes_of Follows text rest reach k (word ∷ words) each far within (i
     choose (inl near) = let h = each.0.1 in omega arith
     choose (inr all) = let h = each.0.0 in omega arith
 
-none_is : {W : Type 0} (codes_of : W → List ℕ) (Follows : W → List ℕ → Type 0) (text : List ℕ) (reach : ℕ) (words : List W) → ByRecursion (λ word. (common_length (codes_of word) text < length (codes_of word)) × (common_length (codes_of word) text ≤ reach)) words → IsOne codes_of Follows words text → ⊥
+none_is : {W : Type 0} (codes_of : W → List ℕ) (Follows : W → List ℕ → Type 0) (text : List ℕ) (reach : ℕ) (words : List W) →
+    ByRecursion (λ word. (common_length (codes_of word) text < length (codes_of word)) × (common_length (codes_of word) text ≤ reach)) words →
+    IsOne codes_of Follows words text → ⊥
 none_is codes_of Follows text reach [] each one = one
 none_is codes_of Follows text reach (word ∷ words) each (inr one) = none_is codes_of Follows text reach words each.1 one
 none_is codes_of Follows text reach (word ∷ words) each (inl behind) =
@@ -107,7 +121,9 @@ none_is codes_of Follows text reach (word ∷ words) each (inl behind) =
     omega arith
 
 -- a text that no word begins
-pub passed_all : {W : Type 0} (codes_of : W → List ℕ) (Follows : W → List ℕ → Type 0) (words : List W) (IsLine : List ℕ → Type 0) (lang : IsLanguage codes_of Follows words IsLine) (text : List ℕ) (reach : ℕ) → 1 ≤ length text → HasNoKeyword codes_of text reach words → Breaks IsLine text reach
+pub passed_all : {W : Type 0} (codes_of : W → List ℕ) (Follows : W → List ℕ → Type 0) (words : List W) (IsLine : List ℕ → Type 0)
+    (lang : IsLanguage codes_of Follows words IsLine) (text : List ℕ) (reach : ℕ) → 1 ≤ length text → HasNoKeyword codes_of text reach words →
+    Breaks IsLine text reach
 passed_all {W = W} codes_of Follows words IsLine lang text reach some passed = record {
   outside = λ is. outside is;
   within = within passed.some;
@@ -127,7 +143,8 @@ passed_all {W = W} codes_of Follows words IsLine lang text reach some passed = r
     begins (inr (word, is)) = (
       drop reach (codes_of word) ++ (lang.sample word).0,
       subst IsLine
-          (ap (λ (front : List ℕ). front ++ (lang.sample word).0) (sym (common_length-front (codes_of word) text) ∙ ap (λ (k : ℕ). take k text ++ drop k (codes_of word)) is) ∙ append_assoc (take reach text) (drop reach (codes_of word)) (lang.sample word).0)
+          (ap (λ (front : List ℕ). front ++ (lang.sample word).0) (sym (common_length-front (codes_of word) text)
+          ∙ ap (λ (k : ℕ). take k text ++ drop k (codes_of word)) is) ∙ append_assoc (take reach text) (drop reach (codes_of word)) (lang.sample word).0)
           (lang.from_word word (lang.sample word).0 (lang.sample word).1),
     )
 
@@ -142,7 +159,9 @@ pub passed_none : {W : Type 0} (codes_of : W → List ℕ) (text : List ℕ) →
 passed_none codes_of text = record { each = All-nil (λ word. (common_length (codes_of word) text < length (codes_of word)) × (common_length (codes_of word) text ≤ 0)); some = inl refl }
 
 -- a text that begins with a word
-pub behind_breaks : {W : Type 0} (codes_of : W → List ℕ) (Follows : W → List ℕ → Type 0) (words : List W) (IsLine : List ℕ → Type 0) (lang : IsLanguage codes_of Follows words IsLine) (word : W) (text bytes rest : List ℕ) (reach : ℕ) → 1 ≤ length text → bytes ≡ codes_of word → text ≡ codes_of word ++ drop (length (codes_of word)) text → rest ≡ drop (length bytes) text
+pub behind_breaks : {W : Type 0} (codes_of : W → List ℕ) (Follows : W → List ℕ → Type 0) (words : List W) (IsLine : List ℕ → Type 0)
+    (lang : IsLanguage codes_of Follows words IsLine) (word : W) (text bytes rest : List ℕ) (reach : ℕ) → 1 ≤ length text → bytes ≡ codes_of word →
+    text ≡ codes_of word ++ drop (length (codes_of word)) text → rest ≡ drop (length bytes) text
     → Breaks (Follows word) rest reach → Breaks IsLine text (length bytes + reach)
 behind_breaks codes_of Follows words IsLine lang word text bytes rest reach some bytes_is text_is rest_is breaks =
     line_breaks codes_of Follows words IsLine lang text (length bytes + reach) some

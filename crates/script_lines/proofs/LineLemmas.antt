@@ -1,5 +1,6 @@
 -- Laws of the lines of a script.
-use Rattle.std.proofs.Common.{◌≡◌, ℕ, zero, suc, ◌+◌, ◌-◌, ◌<◌, ◌≤◌, ◌⊎◌, inl, inr, Bool, true, false, cond, List, [], ◌∷◌, ◌++◌, length, take, drop, get_or, refl, sym, ap, subst, ◌∙◌, arith, append_assoc, length-append, length-drop, eqb-true}
+use Rattle.std.proofs.Common.{◌≡◌, ℕ, zero, suc, ◌+◌, ◌-◌, ◌<◌, ◌≤◌, ◌⊎◌, inl, inr, Bool, true, false, cond, List, [], ◌∷◌, ◌++◌, length, take, drop, get_or}
+use Rattle.std.proofs.Common.{refl, sym, ap, subst, ◌∙◌, arith, append_assoc, length-append, length-drop, eqb-true}
 use Rattle.std.proofs.lemmas.List.{take-append-drop, drop-drop, drop-take, length-take}
 use Rattle.std.proofs.Math.Seq.{take-add}
 use Rattle.std.specs.List.{onto_first, slice_split}
@@ -143,7 +144,8 @@ lines_of-begin at text rest h some = by_rest (first_newline rest)
     by_rest (inr (end, behind, is, one)) = record {
       line = record { text = text ++ end; end = at + length (text ++ end) + 1 };
       more = lines_of (at + length (text ++ end) + 1) behind;
-      lines = ap (λ (bytes : List ℕ). lines_of at (text ++ bytes)) is ∙ ap (lines_of at) (sym (append_assoc text end (10 ∷ behind))) ∙ lines_of-newline at (text ++ end) behind (IsOneLine-append text end h one);
+      lines = ap (λ (bytes : List ℕ). lines_of at (text ++ bytes)) is ∙ ap (lines_of at) (sym (append_assoc text end (10 ∷ behind))) ∙ lines_of-newline at
+          (text ++ end) behind (IsOneLine-append text end h one);
       longer = omega (arith, length-append text end);
       later = omega (arith, length-append text end);
     }

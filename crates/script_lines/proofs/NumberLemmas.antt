@@ -69,7 +69,13 @@ fronts_one n small fits = (sym (decimal_digit n small), front)
   where
     front : (p rest : List ℕ) → p ++ rest ≡ (48 + n) ∷ [] → IsFront n p
     front [] rest e = inl refl
-    front (x ∷ p) rest e = inr (n, omega arith, let none : p ≡ [] = nil_left p rest (tails e) in let h : x ≡ 48 + n = heads e in let same : x ∷ p ≡ (48 + n) ∷ [] = cc (none, h) in same ∙ sym (decimal_digit n small), λ h. h)
+    front (x ∷ p) rest e = inr (
+      n,
+      omega arith,
+      let none : p ≡ [] = nil_left p rest (tails e) in let h : x ≡ 48 + n = heads e in
+          let same : x ∷ p ≡ (48 + n) ∷ [] = cc (none, h) in same ∙ sym (decimal_digit n small),
+      λ h. h,
+    )
       where
         tails : x ∷ p ++ rest ≡ (48 + n) ∷ [] → p ++ rest ≡ []
         tails e = cc e
@@ -176,7 +182,8 @@ read_stops least most value i b text least_small fits within at before none = re
   number = before.number;
   longest = λ k m far most_k least_m most_m e.
       fronts m (omega arith) least_m most_m
-      (front_number m (take (i + 1) text) (drop (i + 1) (take k text)) (omega arith) (ap (λ (xs : List ℕ). xs ++ drop (i + 1) (take k text)) (sym (take-take (i + 1) k text (omega arith))) ∙ take-append-drop (i + 1) (take k text) ∙ e));
+      (front_number m (take (i + 1) text) (drop (i + 1) (take k text)) (omega arith) (ap (λ (xs : List ℕ). xs ++ drop (i + 1) (take k text))
+      (sym (take-take (i + 1) k text (omega arith))) ∙ take-append-drop (i + 1) (take k text) ∙ e));
 }
   where
     is_more : take (i + 1) text ≡ take i text ++ b ∷ []
@@ -206,7 +213,8 @@ read_stops least most value i b text least_small fits within at before none = re
         least_n (inr one) = let h : 1 ≤ n = positive (omega arith) in omega arith
 
 -- a text that isn't a number whole
-pub number_breaks : (least most value len : ℕ) (text : List ℕ) → least ≤ 1 → 1 ≤ most → most < 2 ^ 64 → IsLongestNumber least most text value len → (len ≡ 0) ⊎ (len < length text) → Breaks (IsNumber least most) text len
+pub number_breaks : (least most value len : ℕ) (text : List ℕ) → least ≤ 1 → 1 ≤ most → most < 2 ^ 64 → IsLongestNumber least most text value len →
+    (len ≡ 0) ⊎ (len < length text) → Breaks (IsNumber least most) text len
 number_breaks least most value len text least_small most_some fits reads stops = record {
   outside = λ (n, least_n, most_n, e).
       let some : 0 < length (decimal n) = decimal_nonempty n (omega arith) in

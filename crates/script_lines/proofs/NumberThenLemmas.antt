@@ -3,7 +3,8 @@ use Rattle.std.proofs.Common.{◌≡◌, ℕ, ◌+◌, ◌-◌, ◌^◌, ◌<◌
 use Rattle.std.specs.Prelude.{decimal, All}
 use Rattle.std.proofs.lemmas.Bool.{cases_lt, cases_eq}
 use Rattle.std.proofs.lemmas.Fmt.{decimal_nonempty}
-use Rattle.std.proofs.lemmas.List.{take_all, take-take, take_at, take-append-le, take-append-drop, drop_at, drop_more, drop-append-le, drop-take, length-take-le, length-append, length-drop, append-nil, append_assoc, get_or_append_left, get_or-take, get_or_at}
+use Rattle.std.proofs.lemmas.List.{take_all, take-take, take_at, take-append-le, take-append-drop, drop_at, drop_more, drop-append-le, drop-take}
+use Rattle.std.proofs.lemmas.List.{length-take-le, length-append, length-drop, append-nil, append_assoc, get_or_append_left, get_or-take, get_or_at}
 use Rattle.std.proofs.lemmas.List.Elements.{All-get_or}
 use Rattle.script_lines.specs.Columns.{Begins, Breaks}
 use Rattle.script_lines.specs.Parts.{IsNumberThen, IsLongestNumber}
@@ -15,7 +16,8 @@ take_add a b xs =
     ∙ ap (λ (ys : List ℕ). take a xs ++ ys) (drop-take a b xs)
 
 -- within the first number
-then_short : (first k m len value : ℕ) (text rest tail : List ℕ) → first < 2 ^ 64 → m ≤ first → k ≤ length text → IsLongestNumber 0 first text value len → k ≤ length (decimal m) → take k text ++ rest ≡ decimal m ++ tail → k ≤ len
+then_short : (first k m len value : ℕ) (text rest tail : List ℕ) → first < 2 ^ 64 → m ≤ first → k ≤ length text → IsLongestNumber 0 first text value len →
+    k ≤ length (decimal m) → take k text ++ rest ≡ decimal m ++ tail → k ≤ len
 then_short first k m len value text rest tail fits most within reads short e =
     choose (front_number m (take k text) (drop k (decimal m)) (omega arith) (ap (λ (xs : List ℕ). xs ++ drop k (decimal m)) front ∙ take-append-drop k (decimal m))) (cases_lt len k)
   where
@@ -37,7 +39,8 @@ record IsPast (n : List ℕ) (len k : ℕ) (text rest : List ℕ) : Type 0 where
   space : get_or text len 0 ≡ 32
   second : take (k - (len + 1)) (drop (len + 1) text) ++ rest ≡ n
 
-then_long : (first k m : ℕ) (n : List ℕ) (len value : ℕ) (text rest : List ℕ) → first < 2 ^ 64 → m ≤ first → k ≤ length text → IsLongestNumber 0 first text value len → length (decimal m) < k → take k text ++ rest ≡ decimal m ++ 32 ∷ n → IsPast n len k text rest
+then_long : (first k m : ℕ) (n : List ℕ) (len value : ℕ) (text rest : List ℕ) → first < 2 ^ 64 → m ≤ first → k ≤ length text →
+    IsLongestNumber 0 first text value len → length (decimal m) < k → take k text ++ rest ≡ decimal m ++ 32 ∷ n → IsPast n len k text rest
 then_long first k m n len value text rest fits most within reads long e = at_len (same_len upper (cases_lt (length (decimal m)) len))
   where
     long_text : length (take k text) ≡ k
@@ -66,7 +69,8 @@ then_long first k m n len value text rest fits most within reads long e = at_len
         let number = reads.number (omega arith) in
         let l : length (take len text) ≡ len = length-take-le len text reads.within in
         let digit : 48 ≤ get_or (take len text) (length (decimal m)) 0 =
-        All-get_or (λ c. 48 ≤ c) (take len text) (length (decimal m)) 0 (omega arith) (subst (λ (xs : List ℕ). All (λ c. 48 ≤ c) xs) (sym number.0) (all_digits value (let h = number.2 in omega arith))) in
+        All-get_or (λ c. 48 ≤ c) (take len text) (length (decimal m)) 0 (omega arith) (subst (λ (xs : List ℕ). All (λ c. 48 ≤ c) xs) (sym number.0)
+        (all_digits value (let h = number.2 in omega arith))) in
         let same : get_or (take len text) (length (decimal m)) 0 ≡ get_or text (length (decimal m)) 0 = get_or-take len text (length (decimal m)) 0 below in
         absurd (omega (arith, space_at))
 
@@ -92,7 +96,8 @@ then_long first k m n len value text rest fits most within reads long e = at_len
     }
 
 -- a whole text of two numbers goes past the first
-then_whole : (first m : ℕ) (n : List ℕ) (len value : ℕ) (text : List ℕ) → first < 2 ^ 64 → m ≤ first → IsLongestNumber 0 first text value len → text ≡ decimal m ++ 32 ∷ n → IsPast n len (length text) text []
+then_whole : (first m : ℕ) (n : List ℕ) (len value : ℕ) (text : List ℕ) → first < 2 ^ 64 → m ≤ first → IsLongestNumber 0 first text value len →
+    text ≡ decimal m ++ 32 ∷ n → IsPast n len (length text) text []
 then_whole first m n len value text fits most reads e =
     let l : length text ≡ length (decimal m) + length (32 ∷ n) = ap length e ∙ length-append (decimal m) (32 ∷ n) in
     then_long first (length text) m n len value text [] fits most (omega arith) reads (omega arith)
@@ -122,7 +127,8 @@ then_stops first Is value len text fits some_is reads stops = record {
     later k rest m n far within most_m e (inr short) = let h : k ≤ len = then_short first k m len value text rest (32 ∷ n) fits most_m within reads short e in omega arith
 
 -- where a space follows, the second number decides
-pub then_goes : (first : ℕ) (Is : List ℕ → Type 0) (value len reach : ℕ) (text : List ℕ) → first < 2 ^ 64 → IsLongestNumber 0 first text value len → (len ≡ 0 → ⊥) → len < length text → get_or text len 0 ≡ 32
+pub then_goes : (first : ℕ) (Is : List ℕ → Type 0) (value len reach : ℕ) (text : List ℕ) → first < 2 ^ 64 → IsLongestNumber 0 first text value len →
+    (len ≡ 0 → ⊥) → len < length text → get_or text len 0 ≡ 32
     → Breaks Is (drop (len + 1) text) reach → Breaks (IsNumberThen first Is) text (len + 1 + reach)
 then_goes first Is value len reach text fits reads some below space breaks = record {
   outside = λ (m, n, most_m, is, e).
@@ -158,7 +164,8 @@ then_goes first Is value len reach text fits reads some below space breaks = rec
     one_more : (xs : List ℕ) → take (1 + reach) (32 ∷ xs) ≡ 32 ∷ take reach xs
     one_more xs = take_add 1 reach (32 ∷ xs)
 
-    later : (k : ℕ) (rest : List ℕ) (m : ℕ) (n : List ℕ) → len + 1 + reach < k → k ≤ length text → m ≤ first → Is n → take k text ++ rest ≡ decimal m ++ 32 ∷ n → (length (decimal m) < k) ⊎ (k ≤ length (decimal m)) → ⊥
+    later : (k : ℕ) (rest : List ℕ) (m : ℕ) (n : List ℕ) → len + 1 + reach < k → k ≤ length text → m ≤ first → Is n → take k text ++ rest ≡ decimal m ++ 32 ∷ n
+        → (length (decimal m) < k) ⊎ (k ≤ length (decimal m)) → ⊥
     later k rest m n far within most_m is e (inl long) =
         let past = then_long first k m n len value text rest fits most_m within reads long e in
         breaks.longest (k - (len + 1)) (omega arith) (omega (arith, length-drop (len + 1) text)) (rest, subst Is (sym past.second) is)

@@ -35,7 +35,8 @@ next_taken tells a b script rest rest_now lines next told so_far not_end = by_ki
         ap (λ (bs : List ℕ). a.pending ++ bs) (given told) ∙ sym (append_assoc a.pending bytes rest_now) ∙ ap (λ (bs : List ℕ). bs ++ rest_now) text ∙ append_assoc b.line (10 ∷ b.pending) rest_now in
         record {
           taken = before.taken ++ (b.line ++ 10 ∷ []);
-          source = before.source ∙ ap (λ (bs : List ℕ). before.taken ++ bs) (read ∙ sym (append_assoc b.line (10 ∷ []) (b.pending ++ rest_now))) ∙ sym (append_assoc before.taken (b.line ++ 10 ∷ []) (b.pending ++ rest_now));
+          source = before.source ∙ ap (λ (bs : List ℕ). before.taken ++ bs) (read ∙ sym (append_assoc b.line (10 ∷ []) (b.pending ++ rest_now)))
+              ∙ sym (append_assoc before.taken (b.line ++ 10 ∷ []) (b.pending ++ rest_now));
           ended = λ more.
               ap (ended_lines_of 0) (append_assoc before.taken (b.line ++ 10 ∷ []) more ∙ ap (λ (bs : List ℕ). before.taken ++ bs) (append_assoc b.line (10 ∷ []) more))
               ∙ before.ended (b.line ++ 10 ∷ more)

@@ -58,7 +58,8 @@ ends_none Is WantsMemory tells script rest rest_now lines a b (TooLong number) o
 ends_none Is WantsMemory tells script rest rest_now lines a b Memory order read end told = absurd end
 
 -- then the lines that were read were played whole, and memory was not wanted
-pub whole : {P : Type 0} (Reads : List ℕ → P → Type 0) (Made : List P → List ℕ → P → Type 0) (Written : List P → Type 0) (tells : Type 0) (a b : Reading) (rest rest_now : List ℕ) (lines : List Line) (played : List P)
+pub whole : {P : Type 0} (Reads : List ℕ → P → Type 0) (Made : List P → List ℕ → P → Type 0) (Written : List P → Type 0) (tells : Type 0) (a b : Reading)
+    (rest rest_now : List ℕ) (lines : List Line) (played : List P)
     (ending : ScriptEnd) → EndsReading tells a b rest rest_now ending → ArePlayed Reads lines played × Written played → PlaysByFault Reads Made Written lines played (fault_of ending)
 whole Reads Made Written tells a b rest rest_now lines played Done end are = are
 whole Reads Made Written tells a b rest rest_now lines played (BadLine number column) end are = absurd end
@@ -84,7 +85,8 @@ in_grammar_at : (Is : List ℕ → Type 0) (before : List Line) (line : Line) (b
 in_grammar_at Is before line behind all =
     subst (IsLineOf Is) (get_or-append_seam before line behind line) (all (length before) line (seam before line behind))
 
-stopped_in_grammar : (Is : List ℕ → Type 0) (IsThere : Line → Type 0) (script : List ℕ) (before : List Line) (number : ℕ) → All (IsLineOf Is) (lines_of 0 script) → (stops : StopsAt IsThere script before number)
+stopped_in_grammar : (Is : List ℕ → Type 0) (IsThere : Line → Type 0) (script : List ℕ) (before : List Line) (number : ℕ) →
+    All (IsLineOf Is) (lines_of 0 script) → (stops : StopsAt IsThere script before number)
     → IsLineOf Is stops.line
 stopped_in_grammar Is IsThere script before number all stops = in_grammar_at Is before stops.line stops.stands.behind (subst (All (IsLineOf Is)) stops.stands.lines all)
 
@@ -96,7 +98,8 @@ pub not_long : (Is : List ℕ → Type 0) (script : List ℕ) (lines : List Line
 not_long Is script lines number all stops = (stopped_in_grammar Is IsTooLong script lines number all stops).within stops.is
 
 -- where no fault was counted, it is read to its end, or there was no memory
-pub is_done : (Is WantsMemory : List ℕ → Type 0) (script rest : List ℕ) (lines : List Line) (source source_now sink sink_now : ℕ) (ending : ScriptEnd) → EndsBehind Is WantsMemory script rest lines ending
+pub is_done : (Is WantsMemory : List ℕ → Type 0) (script rest : List ℕ) (lines : List Line) (source source_now sink sink_now : ℕ) (ending : ScriptEnd) →
+    EndsBehind Is WantsMemory script rest lines ending
     → HasCauseOf OfSource source source_now (fault_of ending) → HasCauseOf OfSink sink sink_now (fault_of ending) → All (IsLineOf Is) (lines_of 0 script)
     → (Rose source source_now → ⊥) → (Rose sink sink_now → ⊥) → (ending ≡ Done) ⊎ (ending ≡ Memory)
 is_done Is WantsMemory script rest lines source source_now sink sink_now Done ends in_cause out_cause all no_source no_sink = inl refl

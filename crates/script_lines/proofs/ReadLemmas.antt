@@ -1,10 +1,12 @@
 -- Laws of reading a script line by line.
-use Rattle.std.proofs.Common.{◌≡◌, ℕ, ◌+◌, ◌^◌, ◌<◌, ◌≤◌, ◌⊎◌, inl, inr, Bool, true, false, List, [], ◌∷◌, ◌++◌, length, take, drop, Result, Ok, Err, MatchResult, MatchBool, IfOk, refl, sym, ap, subst, ◌∙◌, arith, append_assoc, length-append}
+use Rattle.std.proofs.Common.{◌≡◌, ℕ, ◌+◌, ◌^◌, ◌<◌, ◌≤◌, ◌⊎◌, inl, inr, Bool, true, false, List, [], ◌∷◌, ◌++◌, length, take, drop, Result, Ok, Err}
+use Rattle.std.proofs.Common.{MatchResult, MatchBool, IfOk, refl, sym, ap, subst, ◌∙◌, arith, append_assoc, length-append}
 use Rattle.std.proofs.lemmas.List.{append-nil, length-take, take_at}
 use Rattle.script_lines.specs.declared.lines.LineStop.{LineStop}
 use Rattle.script_lines.specs.declared.lines.LineStop.TheVariants.{TooLong}
 use Rattle.script_lines.specs.declared.lengths.TheConstants.{LONGEST_LINE}
-use Rattle.script_lines.specs.Lines.{Line, Reading, lines_of, lines_ahead, IsOneLine, IsFirstLine, TakesMore, TakesLine, SamePlace, PastLimits, IsTooLong, with_newline, last_one, IsNextLine, IsAtEnd, NextIsTooLong}
+use Rattle.script_lines.specs.Lines.{Line, Reading, lines_of, lines_ahead, IsOneLine, IsFirstLine, TakesMore, TakesLine, SamePlace, PastLimits, IsTooLong}
+use Rattle.script_lines.specs.Lines.{with_newline, last_one, IsNextLine, IsAtEnd, NextIsTooLong}
 use Rattle.script_lines.proofs.LineLemmas.{lines_of-newline, lines_of-begin, BeginsWith}
 
 -- the same place, twice
@@ -58,8 +60,13 @@ next_is_too_long tells old mid rest rest_now n text more place first past = reco
       let within = first.within in
       let size : length (take text mid.pending) ≡ text = omega (arith, length-take text mid.pending) in
       let script : mid.pending ++ rest_now ≡ take text mid.pending ++ 10 ∷ behind =
-      ap (λ (bs : List ℕ). bs ++ rest_now) first.newline ∙ append_assoc (take text mid.pending) (10 ∷ drop (text + 1) mid.pending) rest_now in
-      (line, lines_of (mid.end + length (take text mid.pending) + 1) behind, lines_ahead-more tells old mid rest rest_now n more place told ∙ ap (lines_of mid.end) script ∙ lines_of-newline mid.end (take text mid.pending) behind first.one_line, long past size);
+      ap (λ (bs : List ℕ). bs ++ rest_now) first.newline ∙ append_assoc (take text mid.pending) (10 ∷ drop (text + 1) mid.pending) rest_now in (
+        line,
+        lines_of (mid.end + length (take text mid.pending) + 1) behind,
+        lines_ahead-more tells old mid rest rest_now n more place told
+            ∙ ap (lines_of mid.end) script ∙ lines_of-newline mid.end (take text mid.pending) behind first.one_line,
+        long past size,
+      );
 }
   where
     long : PastLimits mid.end text 1 → length (take text mid.pending) ≡ text → (LONGEST_LINE < length (take text mid.pending)) ⊎ (2 ^ 24 < mid.end + length (take text mid.pending) + 1)
@@ -109,7 +116,11 @@ next_is_last tells old mid new rest rest_now n more place one empty Z (Ok true) 
 next_is_last tells old mid new rest rest_now n more place one empty Z (Ok false) at_end read = record {
   number = read.1 ∙ place.number;
   pending = nothing_before old.pending more.bytes (sym more.pending ∙ read.0);
-  nothing_left = λ told. (more.given told ∙ ap (λ (bs : List ℕ). more.bytes ++ bs) (empty told) ∙ append-nil more.bytes ∙ nothing_behind old.pending more.bytes (sym more.pending ∙ read.0), empty told);
+  nothing_left = λ told. (
+    more.given told ∙ ap (λ (bs : List ℕ). more.bytes ++ bs) (empty told) ∙ append-nil more.bytes ∙ nothing_behind old.pending more.bytes
+        (sym more.pending ∙ read.0),
+    empty told,
+  );
 }
   where
     nothing_before : (xs ys : List ℕ) → xs ++ ys ≡ [] → xs ≡ []

@@ -6,7 +6,8 @@ use Rattle.std.proofs.lemmas.Fmt.{decimal_injective}
 use Rattle.std.proofs.lemmas.List.{append_assoc}
 use Rattle.std.proofs.lemmas.List.Elements.{All-cons, All-nil, All-head}
 use Rattle.script_text.specs.Turns.{IsTurns}
-use Rattle.script_text.specs.ScriptGrammar.{Line, IsLine, IsValid, text_of, blank, comment, write, read, clear, count, next, dummy, action, table, own_table, shadow_table, error, turns, peek, fatal, bert, heard, reset, power, bridge}
+use Rattle.script_text.specs.ScriptGrammar.{Line, IsLine, IsValid, text_of, blank, comment, write, read, clear, count, next, dummy, action, table, own_table}
+use Rattle.script_text.specs.ScriptGrammar.{shadow_table, error, turns, peek, fatal, bert, heard, reset, power, bridge}
 use Rattle.script_lines.specs.Columns.{Begins}
 use Rattle.script_lines.specs.Parts.{IsPairs, IsNumber, AreTwoNumbers}
 use Rattle.script_text.specs.ScriptText.{codes_of, Follows, IsText, Means, AsWritten, AsComment, line_of}

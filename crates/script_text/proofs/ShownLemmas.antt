@@ -10,7 +10,8 @@ pub shown_none : (told_sink : Type 0) (written reply words : List ℕ) → reply
 shown_none told_sink written reply words is = record { shown = []; text = λ _. sym (append-nil written); words_are = is }
 
 -- a part, and then a part of what was in hand
-pub shown_then : (told_sink : Type 0) (written middle now reply held words : List ℕ) → AreShown told_sink written middle held words → AreShown told_sink middle now reply held → AreShown told_sink written now reply words
+pub shown_then : (told_sink : Type 0) (written middle now reply held words : List ℕ) → AreShown told_sink written middle held words →
+    AreShown told_sink middle now reply held → AreShown told_sink written now reply words
 shown_then told_sink written middle now reply held words first then = record {
   shown = first.shown ++ then.shown;
   text = λ t. then.text t ∙ ap (λ (xs : List ℕ). xs ++ then.shown) (first.text t) ∙ append_assoc written first.shown then.shown;

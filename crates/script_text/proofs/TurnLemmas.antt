@@ -21,7 +21,8 @@ turns_more text i within room all =
     )
 
 -- a byte that is no letter
-pub turns_at : (text : List ℕ) (i : ℕ) → i < length text → i < 4096 → All (λ c. IsTrue (c == 70 || c == 82)) (take i text) → (get_or text i 0 == 70 || get_or text i 0 == 82) ≡ false → Breaks IsTurns text i
+pub turns_at : (text : List ℕ) (i : ℕ) → i < length text → i < 4096 → All (λ c. IsTrue (c == 70 || c == 82)) (take i text) →
+    (get_or text i 0 == 70 || get_or text i 0 == 82) ≡ false → Breaks IsTurns text i
 turns_at text i within room all other = record {
   outside = λ is. no (All-get_or (λ c. IsTrue (c == 70 || c == 82)) text i 0 within is.letters);
   within = omega arith;

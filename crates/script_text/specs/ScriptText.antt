@@ -2,9 +2,11 @@
 use Rattle.std.specs.Prelude.{◌≡◌, ℕ, ◌⊎◌, List, [], ◌∷◌, codes}
 use Rattle.script_lines.specs.Parts.{IsPairs, IsNumber, AreTwoNumbers}
 use Rattle.script_text.specs.Turns.{IsTurns}
-use Rattle.script_text.specs.ScriptGrammar.{Line, IsValid, text_of, blank, comment, write, read, clear, count, next, dummy, action, table, own_table, shadow_table, error, turns, peek, fatal, bert, heard, reset, power, bridge}
+use Rattle.script_text.specs.ScriptGrammar.{Line, IsValid, text_of, blank, comment, write, read, clear, count, next, dummy, action, table, own_table}
+use Rattle.script_text.specs.ScriptGrammar.{shadow_table, error, turns, peek, fatal, bert, heard, reset, power, bridge}
 use Rattle.script_text.specs.declared.script_line.ScriptLine.{ScriptLine}
-use Rattle.script_text.specs.declared.script_line.ScriptLine.TheVariants.{Blank, Write, Read, Clear, Count, Next, Dummy, Action, Table, TableOwn, TableShadow, Error, Turns, Peek, Fatal, Bert, Heard, Reset, Power, Bridge}
+use Rattle.script_text.specs.declared.script_line.ScriptLine.TheVariants.{Blank, Write, Read, Clear, Count, Next, Dummy, Action, Table, TableOwn, TableShadow}
+use Rattle.script_text.specs.declared.script_line.ScriptLine.TheVariants.{Error, Turns, Peek, Fatal, Bert, Heard, Reset, Power, Bridge}
 use Rattle.script_text.specs.declared.script_line.ScriptWord.{ScriptWord}
 use Rattle.script_text.specs.declared.script_line.ScriptWord.TheVariants as keyword
 

@@ -10,7 +10,9 @@ use Rattle.field_lines.specs.Records.{record_header}
 use Rattle.field_lines.specs.Sections.{section_kinds, kind_in, section_structure}
 use Rattle.field_lines.specs.Told.{number_told}
 use Rattle.field_lines.specs.declared.sections.SectionKind.{SectionKind}
-use Rattle.field_lines.specs.declared.sections.SectionKind.TheVariants.{ProcessorGeneric, Ia32Processor, ArmProcessor, MemoryError, MemoryError2, PciExpress, PciBus, PciComponent, FirmwareRecord, DmaRemapping, DirectedIo, Iommu, Ccix, LinuxMachineCheck, LinuxDmesg}
+use Rattle.field_lines.specs.declared.sections.SectionKind.TheVariants.{ProcessorGeneric, Ia32Processor, ArmProcessor, MemoryError, MemoryError2, PciExpress}
+use Rattle.field_lines.specs.declared.sections.SectionKind.TheVariants.{PciBus, PciComponent, FirmwareRecord, DmaRemapping, DirectedIo, Iommu, Ccix}
+use Rattle.field_lines.specs.declared.sections.SectionKind.TheVariants.{LinuxMachineCheck, LinuxDmesg}
 use Rattle.show_findings.specs.Phrases.{Phrase, phrase, Marks, phrases_text, place_text, is_told}
 use Rattle.show_findings.specs.declared.phrases.Manner.TheVariants.{Tens, Sixteens, Two, Four, Flags}
 use Rattle.show_findings.specs.Labels.{label_text, has_label}

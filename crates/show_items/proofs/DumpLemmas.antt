@@ -1,6 +1,8 @@
 -- The lines of a text of acpidump, and the tables in them.
-use Rattle.std.proofs.Common.{◌≡◌, ◌∙◌, ◌<◌, ◌+◌, ◌-◌, ℕ, suc, ◌==◌, Bool, true, false, ◌||◌, if◌then◌else◌, List, [], ◌∷◌, ◌++◌, length, take, Option, Some, None, refl, sym, ap, subst, append_assoc, append-nil, arith, true≢false}
-use Rattle.show_items.specs.Dumps.{AreDumpedAs, AreTables, Dumped, ReadsLine, TakesLine, behind_line, byte_and, first_pair, has_any, in_first, is_title, line_bytes, line_len, lines_of, pairs, place_behind, tables_from, tables_left, whole}
+use Rattle.std.proofs.Common.{◌≡◌, ◌∙◌, ◌<◌, ◌+◌, ◌-◌, ℕ, suc, ◌==◌, Bool, true, false, ◌||◌, if◌then◌else◌, List, [], ◌∷◌, ◌++◌, length, take, Option, Some}
+use Rattle.std.proofs.Common.{None, refl, sym, ap, subst, append_assoc, append-nil, arith, true≢false}
+use Rattle.show_items.specs.Dumps.{AreDumpedAs, AreTables, Dumped, ReadsLine, TakesLine, behind_line, byte_and, first_pair, has_any, in_first, is_title}
+use Rattle.show_items.specs.Dumps.{line_bytes, line_len, lines_of, pairs, place_behind, tables_from, tables_left, whole}
 use Rattle.show_items.specs.Items.{Shown}
 use Rattle.show_items.specs.Judged.{ShowsAll, ShowsOne, StopsAll, StopsIn, StopsOne}
 use Rattle.show_items.specs.Sheets.{ItemsBegun, ShowsItems}

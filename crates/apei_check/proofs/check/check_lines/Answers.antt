@@ -20,7 +20,8 @@ lines-preserved g c =
     let inv = c.lines.invariant in
     let next = c.in-Ok.ensures.line in
     record {
-      so_far = so_far_next _ _ _ _ _ _ _ _ _ _ inv.so_far _ c.in-Ok-parse.line next c.line.ensures c.in-Ok-parse.ensures _ (c.lines_are_read_in_order.ensures.next _ _ _ _ _ _ inv.so_far.read next) c.in-Ok-show_line.ensures.shown;
+      so_far = so_far_next _ _ _ _ _ _ _ _ _ _ inv.so_far _ c.in-Ok-parse.line next c.line.ensures c.in-Ok-parse.ensures _
+          (c.lines_are_read_in_order.ensures.next _ _ _ _ _ _ inv.so_far.read next) c.in-Ok-show_line.ensures.shown;
       at_end = c.in-Ok.ensures.at_end;
       room = c.show_line.auto.buffer ∙ inv.room;
       source = c.in-Ok.ensures.no_fault ∙ inv.source;

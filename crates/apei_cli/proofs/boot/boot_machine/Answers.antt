@@ -18,4 +18,16 @@ returns-in-Ok-boot-clause-booted g c =
     let of : IsGeometryOf (order_of c.args.plan.now) c.in-Ok.geometry = record { sector = is.sector; per_slot = is.per_slot; slots = is.slots } in
     let boot = c.in-Ok-boot.ensures in
     let fits = has_geometry (order_of c.args.plan.now) c.in-Ok.geometry (g.F.Flash.state c.args.flash) of (is.within.0 refl) (boot.fits refl) in
-    record { fits = fits; geometry = c.in-Ok.geometry; geometry_of = of; is_booted = boot.booted; faults = boot.flash.faults; steps = boot.steps; reads = boot.reads; power = boot.power; lit = boot.lit; kept = boot.kept }
+    record {
+      fits = fits;
+      geometry = c.in-Ok.geometry;
+      geometry_of = of;
+      is_booted = boot.booted;
+      faults = boot.flash.faults;
+      steps = boot.steps;
+      reads =
+          boot.reads;
+      power = boot.power;
+      lit = boot.lit;
+      kept = boot.kept;
+    }

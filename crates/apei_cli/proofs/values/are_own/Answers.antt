@@ -16,5 +16,6 @@ returns c = (
   where
     all : c.all.result ≡ list_all (is_own (rows_of (found_of c.args.matches.now)) c.args.job) settings
     all =
-        all_from_yields_List (is_own (rows_of (found_of c.args.matches.now)) c.args.job) _ _ c.all.result c.all.ensures.ran (YieldsList-from_slice c.iter.result.rest.now refl) (λ x b q k. search rules)
+        all_from_yields_List (is_own (rows_of (found_of c.args.matches.now)) c.args.job) _ _ c.all.result c.all.ensures.ran
+        (YieldsList-from_slice c.iter.result.rest.now refl) (λ x b q k. search rules)
         ∙ ap (list_all (is_own (rows_of (found_of c.args.matches.now)) c.args.job)) c.iter.ensures.rest

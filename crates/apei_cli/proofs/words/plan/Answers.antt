@@ -14,7 +14,8 @@ pub returns-clause-plan : goal.returns-clause-plan
 returns-clause-plan c =
     let texts = (map string_bytes c.args.words.now) in
     let none = ap (λ (a : App). fault_of a texts) (sym c.in_ok-command.ensures) ∙ c.in_ok-matches.ensures.taken in
-    asked_for IsPlanIn (IsPlanOf c.args.words.now) texts _ the_command c.in_ok-command.ensures _ c.in_ok-matches.ensures.read (λ plan values. record { taken = takes_words texts none; values = values })
+    asked_for IsPlanIn (IsPlanOf c.args.words.now) texts _ the_command c.in_ok-command.ensures _ c.in_ok-matches.ensures.read
+    (λ plan values. record { taken = takes_words texts none; values = values })
     c.plan_in.result c.plan_in.ensures.plan
 
 pub returns-clause-bad_words : goal.returns-clause-bad_words

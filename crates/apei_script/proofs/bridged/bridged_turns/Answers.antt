@@ -42,8 +42,10 @@ returns-in_err-hear_of_block-clause-unwritten g c =
     let is = same_turn g.F.Flash.tells _ _ _ _ c.turning.session.bridge c.turning.session.machine (turn_of c.bridged_turn-turn.result) c.bridged_turn-turn.new.bridge c.bridged_turn-turn.new.machine
     before.own c.budget-steps.ensures c.bridged_turn-turn.ensures.turn in
     on_err c.from_residual.result
-    (unwritten_by _ g.F.Flash.tells g.O.Sink.tells c.args.session.now c.hear_of_block.new.session c.bridged_turn-turn.new.bridge c.bridged_turn-turn.new.machine clients c.hear_of_block.ensures.bridge c.hear_of_block.ensures.machine _ _ _ _ _
-    (turns_cut _ g.F.Flash.tells g.O.Sink.tells (own_programs g.F.Flash.tells) (state_of c.args.session.now) c.stands.ensures.machine c.requires.on _ _ c.bridged_turn-turn.new.bridge c.bridged_turn-turn.new.machine
+    (unwritten_by _ g.F.Flash.tells g.O.Sink.tells c.args.session.now c.hear_of_block.new.session c.bridged_turn-turn.new.bridge c.bridged_turn-turn.new.machine
+    clients c.hear_of_block.ensures.bridge c.hear_of_block.ensures.machine _ _ _ _ _
+    (turns_cut _ g.F.Flash.tells g.O.Sink.tells (own_programs g.F.Flash.tells) (state_of c.args.session.now) c.stands.ensures.machine c.requires.on _ _
+    c.bridged_turn-turn.new.bridge c.bridged_turn-turn.new.machine
     c.turning.session.bridge c.turning.session.machine _ _ c.args.letters.now c.turning.letter-index _ _ _ c.bridged_turn-turn.result c.steps-step.result (omega arith) c.turning.invariant.so
     is c.bridged_turn-turn.ensures.side c.steps-step.ensures.told c.steps-step.ensures.value (c.took-taken.ensures.0 c.if-taken.true)
     c.hear_of_block.ensures.told c.in_err-hear_of_block.ensures.part))
@@ -53,7 +55,8 @@ returns-in_err-hear_of_block-clause-cause g c = handed_on _ _ _ _ c.from_residua
 
 pub turning-preserved : goal.turning-preserved
 turning-preserved g c =
-    let more : c.push.new.self.items ≡ c.turning.session.buffers.made.items ++ (record { turn = c.bridged_turn-turn.result; step = c.steps-step.result }) ∷ [] = rw c.unwrap.ensures at c.push.ensures.items in
+    let more : c.push.new.self.items ≡ c.turning.session.buffers.made.items ++ (record { turn = c.bridged_turn-turn.result; step = c.steps-step.result }) ∷ [] =
+    rw c.unwrap.ensures at c.push.ensures.items in
     let count : vec_len c.push.new.self ≡ vec_len c.turning.session.buffers.made + 1 = rw c.unwrap.ensures at c.push.ensures.len in
     let before = c.turning.invariant.clients in
     let is = same_turn g.F.Flash.tells _ _ _ _ c.turning.session.bridge c.turning.session.machine (turn_of c.bridged_turn-turn.result) c.bridged_turn-turn.new.bridge c.bridged_turn-turn.new.machine
@@ -61,7 +64,8 @@ turning-preserved g c =
     elim c.if-taken.branch [
       | then-taken+in_ok-hear_of_block w ↦
           let then = w.hear_of_block.ensures.clients in
-          let took = bridged_took _ _ _ _ _ _ _ _ _ c.turning.session.bridge c.bridged_turn-turn.new.bridge c.turning.session.machine c.bridged_turn-turn.new.machine _ _ c.args.letters.now c.turning.letter-index _ _ _ _
+          let took = bridged_took _ _ _ _ _ _ _ _ _ c.turning.session.bridge c.bridged_turn-turn.new.bridge c.turning.session.machine
+          c.bridged_turn-turn.new.machine _ _ c.args.letters.now c.turning.letter-index _ _ _ _
           c.bridged_turn-turn.result c.steps-step.result (omega arith) c.turning.invariant.so is c.bridged_turn-turn.ensures.side c.steps-step.ensures.told c.steps-step.ensures.value more
           (c.took-taken.ensures.0 w.if-taken.true) w.hear_of_block.ensures.told w.in_ok-hear_of_block.ensures.all in
           rw (w.session-is, w.chain-is, w.out-is) (record {
@@ -73,7 +77,8 @@ turning-preserved g c =
           })
       | else-taken w ↦
           rw (w.session-is, w.chain-is, w.out-is) (record {
-            so = bridged_quiet _ _ _ _ _ _ _ _ _ c.turning.session.bridge c.bridged_turn-turn.new.bridge c.turning.session.machine c.bridged_turn-turn.new.machine _ c.args.letters.now c.turning.letter-index _ _ _
+            so = bridged_quiet _ _ _ _ _ _ _ _ _ c.turning.session.bridge c.bridged_turn-turn.new.bridge c.turning.session.machine
+                c.bridged_turn-turn.new.machine _ c.args.letters.now c.turning.letter-index _ _ _
                 c.bridged_turn-turn.result c.steps-step.result (omega arith) c.turning.invariant.so is c.bridged_turn-turn.ensures.side c.steps-step.ensures.told c.steps-step.ensures.value more
                 (not_taken (turn_of c.bridged_turn-turn.result) c.took-taken.result c.took-taken.ensures w.if-taken.false);
             count = count ∙ ap (λ (n : ℕ). n + 1) c.turning.invariant.count;
@@ -85,16 +90,20 @@ turning-preserved g c =
 
 pub returns : goal.returns
 returns g c =
-    let reply : reply_at c.steps-step-2.result (words_of_made c.deref.result.now) ≡ reply_at c.steps-step-2.result (words_of_made c.turning.session.buffers.made.items) = ap (λ (m : List MadeTurn). reply_at c.steps-step-2.result (words_of_made m)) c.deref.ensures.value in
+    let reply : reply_at c.steps-step-2.result (words_of_made c.deref.result.now) ≡ reply_at c.steps-step-2.result
+    (words_of_made c.turning.session.buffers.made.items) = ap (λ (m : List MadeTurn). reply_at c.steps-step-2.result (words_of_made m)) c.deref.ensures.value
+    in
     record {
       played = on_ok_weaker c.say_made.result
           (λ h. played_by _ g.F.Flash.tells g.O.Sink.tells c.args.session.now _ c.turning.session.bridge c.turning.session.machine c.turning.invariant.clients refl refl _ _ _ _ _
-          (turns_all _ g.F.Flash.tells g.O.Sink.tells (own_programs g.F.Flash.tells) (state_of c.args.session.now) c.stands.ensures.machine c.requires.on _ _ c.turning.session.bridge c.turning.session.machine
+          (turns_all _ g.F.Flash.tells g.O.Sink.tells (own_programs g.F.Flash.tells) (state_of c.args.session.now) c.stands.ensures.machine c.requires.on _ _
+          c.turning.session.bridge c.turning.session.machine
           _ c.args.letters.now c.turning.letter-index _ _ _ c.steps-step-2.result (omega arith) c.turning.invariant.so c.steps-step-2.ensures.value
           (λ t. h t ∙ ap (λ (xs : List ℕ). g.O.Sink.written c.turning.out ++ xs) reply))) c.say_made.ensures.all;
       unwritten = on_err_weaker c.say_made.result
           (λ h. unwritten_by _ g.F.Flash.tells g.O.Sink.tells c.args.session.now _ c.turning.session.bridge c.turning.session.machine c.turning.invariant.clients refl refl _ _ _ _ _
-          (turns_unwritten _ g.F.Flash.tells g.O.Sink.tells (own_programs g.F.Flash.tells) (state_of c.args.session.now) c.stands.ensures.machine c.requires.on _ _ c.turning.session.bridge c.turning.session.machine
+          (turns_unwritten _ g.F.Flash.tells g.O.Sink.tells (own_programs g.F.Flash.tells) (state_of c.args.session.now) c.stands.ensures.machine c.requires.on
+          _ _ c.turning.session.bridge c.turning.session.machine
           _ c.args.letters.now c.turning.letter-index _ _ _ c.steps-step-2.result (omega arith) c.turning.invariant.so c.steps-step-2.ensures.value
           (λ t. let part = h t in (part.0, part.1 ∙ ap (λ (xs : List ℕ). g.O.Sink.written c.turning.out ++ take part.0 xs) reply)))) c.say_made.ensures.part;
       cause = same_cause _ _ _ c.say_made.result c.turning.invariant.faults c.say_made.ensures.cause;

@@ -8,7 +8,8 @@ use Rattle.apei_script.proofs.bridged.bridged_turns.Given as goal
 
 abbrev pub invariant-turning : goal.invariant-turning
 invariant-turning g l = record {
-  so : BridgedSoFar (λ b. (goal.Listener-dyn g (b.vtable, b.value)).hearing b.value) g.F.Flash.tells g.O.Sink.tells l.fn.session.own (budget_of (state_of l.fn.session)) l.fn.session.bridge l.fn.session.machine
+  so : BridgedSoFar (λ b. (goal.Listener-dyn g (b.vtable, b.value)).hearing b.value) g.F.Flash.tells g.O.Sink.tells l.fn.session.own
+      (budget_of (state_of l.fn.session)) l.fn.session.bridge l.fn.session.machine
       (members_of l.fn.chain) (g.O.Sink.written l.fn.out) l.session.bridge l.session.machine (members_of l.chain) (take l.letter-index l.letters) l.session.buffers.made.items (g.O.Sink.written l.out);
   count : vec_len l.session.buffers.made ≡ l.letter-index;
   on : l.session.bridge ≡ Off → ⊥;

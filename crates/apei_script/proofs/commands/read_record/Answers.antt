@@ -21,9 +21,11 @@ put_record-requires-clause-most g c =
 
 pub returns-in-Ok-clause-answers : goal.returns-in-Ok-clause-answers
 returns-in-Ok-clause-answers g c =
-    reads g.F.Flash.tells c.args.client.now c.args.steps c.args.machine.now c.args.id _ _ (Ok c.in-Ok.len) _ _ _ _ (length-take-le _ _ c.requires.room) c.new.ensures c.in-Ok.ensures.reads c.in-Ok.ensures.reaches c.put_record.ensures
+    reads g.F.Flash.tells c.args.client.now c.args.steps c.args.machine.now c.args.id _ _ (Ok c.in-Ok.len) _ _ _ _ (length-take-le _ _ c.requires.room)
+    c.new.ensures c.in-Ok.ensures.reads c.in-Ok.ensures.reaches c.put_record.ensures
 
 pub returns-in-Err-clause-answers : goal.returns-in-Err-clause-answers
 returns-in-Err-clause-answers g c =
-    reads g.F.Flash.tells c.args.client.now c.args.steps c.args.machine.now c.args.id _ _ (Err c.in-Err.error) _ _ _ _ (length-take-le _ _ c.requires.room) c.new.ensures c.in-Err.ensures.reads c.in-Err.ensures.reaches
+    reads g.F.Flash.tells c.args.client.now c.args.steps c.args.machine.now c.args.id _ _ (Err c.in-Err.error) _ _ _ _ (length-take-le _ _ c.requires.room)
+    c.new.ensures c.in-Err.ensures.reads c.in-Err.ensures.reaches
     c.refuse.ensures

@@ -13,5 +13,6 @@ returns-in-Ok-clause-answers g c =
 
 pub returns-in-Err-clause-answers : goal.returns-in-Err-clause-answers
 returns-in-Err-clause-answers g c =
-    writes g.F.Flash.tells c.args.client.now c.args.steps c.args.machine.now c.args.hex.now _ (Err c.in-Err.error) _ _ _ _ c.decode-len.ensures.bytes c.new.ensures c.in-Err.ensures.writes c.in-Err.ensures.reaches
+    writes g.F.Flash.tells c.args.client.now c.args.steps c.args.machine.now c.args.hex.now _ (Err c.in-Err.error) _ _ _ _ c.decode-len.ensures.bytes
+    c.new.ensures c.in-Err.ensures.writes c.in-Err.ensures.reaches
     c.refuse.ensures

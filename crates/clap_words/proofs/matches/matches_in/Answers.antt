@@ -14,6 +14,7 @@ pub returns : goal.returns
 returns c = record {
   taken = tt;
   read = tt;
-  faulty = λ _. faulty (fault_of (app_of c.args.command) (map string_bytes c.args.words.now)) c.in-Err.error (c.in-Err.ensures.kinds c.requires) (λ memory. c.in_default.not-OutOfMemory (c.kind.ensures ∙ memory));
+  faulty = λ _. faulty (fault_of (app_of c.args.command) (map string_bytes c.args.words.now)) c.in-Err.error (c.in-Err.ensures.kinds c.requires)
+      (λ memory. c.in_default.not-OutOfMemory (c.kind.ensures ∙ memory));
   refused = λ _ takes. c.in_default.not-OutOfMemory (c.kind.ensures ∙ c.in-Err.ensures.passes takes);
 }

@@ -8,12 +8,14 @@ loop-at-init c = piece_begins c.args.reader.now (contents c.args.records.now.ite
 
 pub loop-at-preserved : goal.loop-at-preserved
 loop-at-preserved c =
-    piece_took c.args.reader.now c.loop-at.reader c.step.new.reader (contents c.args.records.now.items) (contents c.loop-at.records.items) (contents c.step.new.records.items) c.args.piece.now _ c.loop-at.at c.in-Took.taken
+    piece_took c.args.reader.now c.loop-at.reader c.step.new.reader (contents c.args.records.now.items) (contents c.loop-at.records.items)
+    (contents c.step.new.records.items) c.args.piece.now _ c.loop-at.at c.in-Took.taken
     c.loop-at.invariant (take_rest c.args.piece.now c.loop-at.at) (rw c.in-Took.is at c.in_ok-taken.ensures)
 
 pub returns-in-Stopped : goal.returns-in-Stopped
 returns-in-Stopped c =
-    piece_stopped c.args.reader.now c.loop-at.reader c.step.new.reader (contents c.args.records.now.items) (contents c.loop-at.records.items) (contents c.step.new.records.items) c.args.piece.now _ c.loop-at.at c.in-Stopped.error
+    piece_stopped c.args.reader.now c.loop-at.reader c.step.new.reader (contents c.args.records.now.items) (contents c.loop-at.records.items)
+    (contents c.step.new.records.items) c.args.piece.now _ c.loop-at.at c.in-Stopped.error
     c.loop-at.invariant (take_rest c.args.piece.now c.loop-at.at) (rw c.in-Stopped.is at c.in_ok-taken.ensures)
 
 pub returns : goal.returns

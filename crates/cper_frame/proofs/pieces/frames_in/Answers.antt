@@ -12,26 +12,32 @@ loop-piece-init c =
 pub returns-in-Some-clause-split : goal.returns-in-Some-clause-split
 returns-in-Some-clause-split c =
     refused_split c.args.limit c.loop-piece.reader c.feed_piece.new.reader (flat_map (λ v. v.items) (take c.loop-piece.piece-index c.args.pieces.now)) c.as_slice.result.now
-    (flat_map (λ v. v.items) (drop (c.loop-piece.piece-index + 1) c.args.pieces.now)) (flat_map (λ v. v.items) c.args.pieces.now) (contents c.loop-piece.records.items) (contents c.feed_piece.new.records.items) c.in-Some.error
+    (flat_map (λ v. v.items) (drop (c.loop-piece.piece-index + 1) c.args.pieces.now)) (flat_map (λ v. v.items) c.args.pieces.now)
+    (contents c.loop-piece.records.items) (contents c.feed_piece.new.records.items) c.in-Some.error
     c.loop-piece.invariant (rw c.in-Some.is at c.in_ok-feed_piece.ensures)
     (whole_at (λ v. v.items) c.args.pieces.now c.loop-piece.piece-index c.piece-item.result c.loop-piece-test.true c.piece-item.is
-    ∙ ap (λ xs. (flat_map (λ v. v.items) (take c.loop-piece.piece-index c.args.pieces.now) ++ xs) ++ flat_map (λ v. v.items) (drop (c.loop-piece.piece-index + 1) c.args.pieces.now)) (sym c.as_slice.ensures.value))
+    ∙ ap (λ xs. (flat_map (λ v. v.items) (take c.loop-piece.piece-index c.args.pieces.now) ++ xs) ++ flat_map (λ v. v.items)
+    (drop (c.loop-piece.piece-index + 1) c.args.pieces.now)) (sym c.as_slice.ensures.value))
 
 pub returns-in-Some-clause-only : goal.returns-in-Some-clause-only
 returns-in-Some-clause-only c = λ others rest error other.
     refused_only c.args.limit c.loop-piece.reader c.feed_piece.new.reader (flat_map (λ v. v.items) (take c.loop-piece.piece-index c.args.pieces.now)) c.as_slice.result.now
-    (flat_map (λ v. v.items) (drop (c.loop-piece.piece-index + 1) c.args.pieces.now)) (flat_map (λ v. v.items) c.args.pieces.now) (contents c.loop-piece.records.items) (contents c.feed_piece.new.records.items) others c.in-Some.error error rest
+    (flat_map (λ v. v.items) (drop (c.loop-piece.piece-index + 1) c.args.pieces.now)) (flat_map (λ v. v.items) c.args.pieces.now)
+    (contents c.loop-piece.records.items) (contents c.feed_piece.new.records.items) others c.in-Some.error error rest
     c.loop-piece.invariant (rw c.in-Some.is at c.in_ok-feed_piece.ensures)
     (whole_at (λ v. v.items) c.args.pieces.now c.loop-piece.piece-index c.piece-item.result c.loop-piece-test.true c.piece-item.is
-    ∙ ap (λ xs. (flat_map (λ v. v.items) (take c.loop-piece.piece-index c.args.pieces.now) ++ xs) ++ flat_map (λ v. v.items) (drop (c.loop-piece.piece-index + 1) c.args.pieces.now)) (sym c.as_slice.ensures.value))
+    ∙ ap (λ xs. (flat_map (λ v. v.items) (take c.loop-piece.piece-index c.args.pieces.now) ++ xs) ++ flat_map (λ v. v.items)
+    (drop (c.loop-piece.piece-index + 1) c.args.pieces.now)) (sym c.as_slice.ensures.value))
     other
 
 pub returns-clause-split : goal.returns-clause-split
 returns-clause-split c =
-    ended_split c.args.limit c.loop-piece.reader (flat_map (λ v. v.items) (take c.loop-piece.piece-index c.args.pieces.now)) (flat_map (λ v. v.items) c.args.pieces.now) (contents c.loop-piece.records.items) c.loop-piece.invariant
+    ended_split c.args.limit c.loop-piece.reader (flat_map (λ v. v.items) (take c.loop-piece.piece-index c.args.pieces.now))
+    (flat_map (λ v. v.items) c.args.pieces.now) (contents c.loop-piece.records.items) c.loop-piece.invariant
     (ap (flat_map (λ v. v.items)) (sym (take_all c.loop-piece.piece-index c.args.pieces.now c.loop-piece-test.false)))
 
 pub returns-clause-only : goal.returns-clause-only
 returns-clause-only c = λ others rest error other.
-    ended_only c.args.limit c.loop-piece.reader (flat_map (λ v. v.items) (take c.loop-piece.piece-index c.args.pieces.now)) (flat_map (λ v. v.items) c.args.pieces.now) (contents c.loop-piece.records.items) others error rest c.loop-piece.invariant
+    ended_only c.args.limit c.loop-piece.reader (flat_map (λ v. v.items) (take c.loop-piece.piece-index c.args.pieces.now))
+    (flat_map (λ v. v.items) c.args.pieces.now) (contents c.loop-piece.records.items) others error rest c.loop-piece.invariant
     (ap (flat_map (λ v. v.items)) (sym (take_all c.loop-piece.piece-index c.args.pieces.now c.loop-piece-test.false))) other

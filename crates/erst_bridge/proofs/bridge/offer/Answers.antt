@@ -14,9 +14,11 @@ returns-in-Ok-clause-bridges g c = λ block is.
     (Holds c.args.id block) (Stored name) (record { bridge = Releases (c.args.id + 1); left = c.write.new.budget; station = c.write.new.space }))
     (sym c.in-Some.ensures.0)
     (Stores c.args.id block c.write.new.budget c.write.new.space (below_last c.args.id c.ranges.id.fits c.in-Some.ensures.1)
-    (subst (λ (bytes : List ℕ). Writes g.S.Space.allows c.args.client.now bytes c.args.budget.now (g.S.Space.state c.args.station.now) (Ok tt) c.write.new.budget (g.S.Space.state c.write.new.space)) is c.in-Ok.ensures.writes))
+    (subst (λ (bytes : List ℕ). Writes g.S.Space.allows c.args.client.now bytes c.args.budget.now (g.S.Space.state c.args.station.now) (Ok tt)
+    c.write.new.budget (g.S.Space.state c.write.new.space)) is c.in-Ok.ensures.writes))
 
 pub returns-in-Err-clause-bridges : goal.returns-in-Err-clause-bridges
 returns-in-Err-clause-bridges g c = λ block is.
     Keeps c.args.id block c.in-Err.error c.write.new.budget c.write.new.space (below_last c.args.id c.ranges.id.fits c.in-Some.ensures.1)
-    (subst (λ (bytes : List ℕ). Writes g.S.Space.allows c.args.client.now bytes c.args.budget.now (g.S.Space.state c.args.station.now) (Err c.in-Err.error) c.write.new.budget (g.S.Space.state c.write.new.space)) is c.in-Err.ensures.writes)
+    (subst (λ (bytes : List ℕ). Writes g.S.Space.allows c.args.client.now bytes c.args.budget.now (g.S.Space.state c.args.station.now) (Err c.in-Err.error)
+    c.write.new.budget (g.S.Space.state c.write.new.space)) is c.in-Err.ensures.writes)

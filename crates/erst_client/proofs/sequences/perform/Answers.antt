@@ -7,7 +7,8 @@ use Rattle.erst_client.proofs.sequences.perform.Goals as goal
 pub returns-in-Ending : goal.returns-in-Ending
 returns-in-Ending g c =
     let run = rw (c.program_for-program.ensures, c.new.ensures) at c.run.ensures.run in
-    subst (λ (s : Stage). Runs g.S.Space.allows c.args.table.now.entries s c.args.request c.args.budget.now (g.S.Space.state c.args.space.now) c.run.result c.args.budget.now (g.S.Space.state c.run.new.space))
+    subst (λ (s : Stage). Runs g.S.Space.allows c.args.table.now.entries s c.args.request c.args.budget.now (g.S.Space.state c.args.space.now) c.run.result
+    c.args.budget.now (g.S.Space.state c.run.new.space))
     (sym c.in-Ending.is) (record { after = c.run.new.budget; left_is = refl; performs = run })
 
 pub returns-in_default : goal.returns-in_default

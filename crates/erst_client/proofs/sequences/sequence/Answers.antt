@@ -22,7 +22,8 @@ pub stages-preserved : goal.stages-preserved
 stages-preserved g c = record {
   reached = reached_wait g.S.Space.allows c.args.table.now.entries c.args.command c.args.timings c.args.budget.now (g.S.Space.state c.args.space.now) c.in-Waiting.waited c.stages.budget
       (g.S.Space.state c.stages.space) (g.S.Space.state c.pause.new.space)
-      (subst (λ (s : Stage). Reached g.S.Space.allows c.args.table.now.entries c.args.command c.args.timings c.args.budget.now (g.S.Space.state c.args.space.now) s c.stages.budget (g.S.Space.state c.stages.space))
+      (subst (λ (s : Stage). Reached g.S.Space.allows c.args.table.now.entries c.args.command c.args.timings c.args.budget.now
+      (g.S.Space.state c.args.space.now) s c.stages.budget (g.S.Space.state c.stages.space))
       c.in-Waiting.is c.stages.invariant.reached) c.pause.ensures;
   bounded = subst (λ (s : Stage). is_bounded s ≡ true) c.in-Waiting.is c.stages.invariant.bounded;
 }

@@ -11,4 +11,5 @@ returns-clause-found c =
       | else-header_size-ne48-via-then-header_size-ne48+else-header_size-ne12 w ↦ inr (sym c.get_u32-header_size.ensures ∙ w.if-header_size-ne12.false)
       | else-header_size-ne48-via-else-header_size-ne48 w ↦ inl (sym c.get_u32-header_size.ensures ∙ w.if-header_size-ne48.false)
     ] in
-    finds c.args.bytes.now c.in-Ok.found.0 c.in-Ok.found.1.now c.in-Ok.ensures.found size (omega (arith, c.from-length.ensures, c.get_u32-2.ensures, c.from-count.ensures, c.get_u32.ensures, c.if-length-count.false))
+    finds c.args.bytes.now c.in-Ok.found.0 c.in-Ok.found.1.now c.in-Ok.ensures.found size
+    (omega (arith, c.from-length.ensures, c.get_u32-2.ensures, c.from-count.ensures, c.get_u32.ensures, c.if-length-count.false))

@@ -6,5 +6,10 @@ use Rattle.erst_interp.proofs.instructions.begun.Goals as goal
 
 pub returns-in-Err-clause-begins : goal.returns-in-Err-clause-begins
 returns-in-Err-clause-begins c =
-    let has : HasWork c.args.task.now (access_meaning c.in-OnRegister.access c.args.task.now) = record { instruction = c.in-Some.instruction; code = sym c.in-Some.ensures; work_is = sym c.in-OnRegister.ensures } in
+    let has : HasWork c.args.task.now (access_meaning c.in-OnRegister.access c.args.task.now) = record {
+      instruction = c.in-Some.instruction;
+      code =
+          sym c.in-Some.ensures;
+      work_is = sym c.in-OnRegister.ensures;
+    } in
     HasNoRegister c.in-OnRegister.access c.in-Err.why has (sym c.in-Err.ensures.exact)

@@ -12,5 +12,6 @@ returns-then-listed-ids-clause-told c =
 
 pub returns-clause-told : goal.returns-clause-told
 returns-clause-told c =
-    subst (λ (at : Listing). IsHeard c.args.table.now.entries c.args.steps c.args.listed c.args.ended_once c.args.ids.now (Ok (Some c.args.id)) at (set c.args.ids.now c.args.listed c.args.id)) (sym c.asked.ensures.asked)
+    subst (λ (at : Listing). IsHeard c.args.table.now.entries c.args.steps c.args.listed c.args.ended_once c.args.ids.now (Ok (Some c.args.id)) at
+    (set c.args.ids.now c.args.listed c.args.id)) (sym c.asked.ensures.asked)
     (told_new c.args.table.now.entries c.args.steps c.args.listed c.args.ended_once c.args.ids.now c.args.id c.requires c.if-listed-ids.false (iff_false c.is_listed.ensures c.if-is_listed.false))

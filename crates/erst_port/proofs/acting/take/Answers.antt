@@ -15,7 +15,8 @@ returns-then-code-from-2 c =
 pub returns-then-value-eq18446744073709551615 : goal.returns-then-value-eq18446744073709551615
 returns-then-value-eq18446744073709551615 c =
     acted_round c.args.device.now c.args.range.now c.args.address c.args.code c.action.new.self c.action.new.range
-    c.action.ensures.acts c.action.ensures.effect (c.action.ensures.copies tt) c.action-then-value-eq18446744073709551615.new.self c.action-then-value-eq18446744073709551615.new.range (omega arith) (omega arith)
+    c.action.ensures.acts c.action.ensures.effect (c.action.ensures.copies tt) c.action-then-value-eq18446744073709551615.new.self
+    c.action-then-value-eq18446744073709551615.new.range (omega arith) (omega arith)
     c.action-then-value-eq18446744073709551615.ensures.acts
 
 pub returns-else-value-eq18446744073709551615 : goal.returns-else-value-eq18446744073709551615

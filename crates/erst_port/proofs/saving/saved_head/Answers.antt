@@ -28,7 +28,8 @@ returns-clause-form c = λ store.
     let registers = c.args.registers.now in
     let addresses = c.args.addresses.now in
     let head : List ℕ = saved_head (layout_of c.args.geometry.now) addresses (seen registers store) in
-    let is : joined (fields_of c.sector.result c.per_slot.result c.slots.result c.operation_number.result c.number.result addresses.registers addresses.range registers.value registers.offset registers.id registers.cursor) ≡ head =
+    let is : joined (fields_of c.sector.result c.per_slot.result c.slots.result c.operation_number.result c.number.result addresses.registers addresses.range
+    registers.value registers.offset registers.id registers.cursor) ≡ head =
     unfold saved_head in cc in
     fields.wrote.put
     ∙ put_at-whole (replicate 80 0) _ (ap (λ (xs : List ℕ). length xs) is ∙ length-saved_head (layout_of c.args.geometry.now) addresses (seen registers store)) ∙ is

@@ -23,7 +23,8 @@ loop-left-preserved g c =
     let told = c.loop-left.invariant.3 in
     let small : size ≤ length (drop at body) = omega (arith, size_is) in
     let fits = length-drop {A = ℕ} at body in (
-      wrote_part text heading c.args.base body group left c.loop-left.index at size c.loop-left.out.items c.add_part.new.out.items c.bytes_at.result.now size_is c.bytes_at.ensures.value c.in_ok-add_part.ensures (omega arith) (omega arith)
+      wrote_part text heading c.args.base body group left c.loop-left.index at size c.loop-left.out.items c.add_part.new.out.items c.bytes_at.result.now size_is
+          c.bytes_at.ensures.value c.in_ok-add_part.ensures (omega arith) (omega arith)
           ∙ c.loop-left.invariant.0,
       behind_part body group left at size size_is (omega arith) (omega arith) ∙ c.loop-left.invariant.1,
       omega arith,

@@ -14,8 +14,10 @@ begin-requires c =
     (windows_ack c.args.map.now c.write_address.new.ram c.set_ack.new.ram (bit_or (ack_read c.args.map.now c.write_address.new.ram) (ack_mask c.args.map.now)) c.set_ack.ensures.memory windows)
 
 pub returns-clause-memory : goal.returns-clause-memory
-returns-clause-memory c = started_memory c.args.map.now c.args.ram.now c.write_address.new.ram c.set_ack.new.ram c.begin.new.ram c.requires c.write_address.ensures c.set_ack.ensures.memory c.begin.ensures
+returns-clause-memory c = started_memory c.args.map.now c.args.ram.now c.write_address.new.ram c.set_ack.new.ram c.begin.new.ram c.requires
+    c.write_address.ensures c.set_ack.ensures.memory c.begin.ensures
 
 pub returns-clause-set : goal.returns-clause-set
 returns-clause-set c =
-    λ sound. started_set c.args.map.now c.args.ram.now c.write_address.new.ram c.set_ack.new.ram c.begin.new.ram c.requires c.write_address.ensures c.set_ack.ensures.memory c.begin.ensures (c.set_ack.ensures.set sound)
+    λ sound. started_set c.args.map.now c.args.ram.now c.write_address.new.ram c.set_ack.new.ram c.begin.new.ram c.requires c.write_address.ensures
+    c.set_ack.ensures.memory c.begin.ensures (c.set_ack.ensures.set sound)

@@ -42,9 +42,11 @@ next_fits events new rest done made le few =
     omega (arith, n, a, b, le, few)
 
 -- the next turns are the machine's
-next_done : (c : After-run_of-made) → SideDone c.args.side (take c.run_of-made.result.1 c.run_of-made.new.events) c.loop-done.stand c.run_of-made.result.0 c.loop-done.blocks c.run_of-made.new.blocks c.loop-done.ram c.run_of-made.new.ram
+next_done : (c : After-run_of-made) → SideDone c.args.side (take c.run_of-made.result.1 c.run_of-made.new.events) c.loop-done.stand c.run_of-made.result.0
+    c.loop-done.blocks c.run_of-made.new.blocks c.loop-done.ram c.run_of-made.new.ram
 next_done c =
-    side_done c.args.side c.loop-done.stand c.run_of-made.result.0 c.loop-done.blocks c.run_of-made.new.blocks c.loop-done.ram c.run_of-made.new.ram (take c.run_of-made.result.1 c.run_of-made.new.events)
+    side_done c.args.side c.loop-done.stand c.run_of-made.result.0 c.loop-done.blocks c.run_of-made.new.blocks c.loop-done.ram c.run_of-made.new.ram
+    (take c.run_of-made.result.1 c.run_of-made.new.events)
     c.loop-done.invariant.1 c.run_of-made.ensures.room (stands_then _ _ _ _ _ _ _ (c.loop-done.invariant.2 c.requires.stands.0 c.requires.stands.1)) c.run_of-made.ensures.runs
 
 pub loop-done-preserved : goal.loop-done-preserved
@@ -61,9 +63,12 @@ loop-done-preserved c =
       λ m st.
           let a = c.loop-done.invariant.2 m st in
           let b = done.turns (turned_times side (length (take c.loop-done.done c.loop-done.events)) m) a.turned.stands in
-          subst (λ (es : List Event). MakesTurns side es (over (handover_of c.args.ends c.args.blocks.now) c.args.ram.now) (over (handover_of c.run_of-made.result.0 c.run_of-made.new.blocks) c.run_of-made.new.ram) m)
+          subst (λ (es : List Event). MakesTurns side es (over (handover_of c.args.ends c.args.blocks.now) c.args.ram.now)
+          (over (handover_of c.run_of-made.result.0 c.run_of-made.new.blocks) c.run_of-made.new.ram) m)
           (sym (next_events c.loop-done.events c.run_of-made.new.events rest c.loop-done.done c.run_of-made.result.1 le inside))
-          (turns_then side (take c.loop-done.done c.loop-done.events) (take c.run_of-made.result.1 c.run_of-made.new.events) (handover_of c.args.ends c.args.blocks.now) (handover_of c.loop-done.stand c.loop-done.blocks) (handover_of c.run_of-made.result.0 c.run_of-made.new.blocks)
+          (turns_then side (take c.loop-done.done c.loop-done.events) (take c.run_of-made.result.1 c.run_of-made.new.events)
+          (handover_of c.args.ends c.args.blocks.now) (handover_of c.loop-done.stand c.loop-done.blocks)
+          (handover_of c.run_of-made.result.0 c.run_of-made.new.blocks)
           c.args.ram.now c.loop-done.ram c.run_of-made.new.ram m st a b),
     )
 
@@ -73,5 +78,6 @@ returns-clause-consistent c = c.loop-done.invariant.1
 pub returns-clause-turns : goal.returns-clause-turns
 returns-clause-turns c =
     let all = c.loop-done-test.false in
-    λ m st. subst (λ (es : List Event). MakesTurns c.args.side es (over (handover_of c.args.ends c.args.blocks.now) c.args.ram.now) (over (handover_of c.loop-done.stand c.loop-done.blocks) c.loop-done.ram) m)
+    λ m st. subst (λ (es : List Event). MakesTurns c.args.side es (over (handover_of c.args.ends c.args.blocks.now) c.args.ram.now)
+    (over (handover_of c.loop-done.stand c.loop-done.blocks) c.loop-done.ram) m)
     (take_all c.loop-done.done c.loop-done.events (omega (arith, all))) (c.loop-done.invariant.2 m st)

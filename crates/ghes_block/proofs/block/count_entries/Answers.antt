@@ -18,7 +18,8 @@ returns-in_err-at c =
     let some = c.loop-at-test.true in
     let p = err_from_is_err_and c.from_residual.result c.from_residual.ensures.1 in
     let error = c.in_err-at.field-0.0 in
-    let here : whole_entry_size c.loop-at.index (20 + at) (drop at content) ≡ Err error = ap (whole_entry_size c.loop-at.index (20 + at)) (sym rest) ∙ sym c.whole_entry_size.ensures.exact ∙ c.in_err-at.was in
+    let here : whole_entry_size c.loop-at.index (20 + at) (drop at content) ≡ Err error = ap (whole_entry_size c.loop-at.index (20 + at)) (sym rest)
+    ∙ sym c.whole_entry_size.ensures.exact ∙ c.in_err-at.was in
     let left : (length (drop at content) == 0) ≡ false = ne_eqb (length (drop at content)) 0 (λ z. omega arith) in
     p.1
     ∙ ap (λ (e : BlockError). Err e) p.2

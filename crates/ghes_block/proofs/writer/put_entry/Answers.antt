@@ -20,5 +20,6 @@ returns-clause-fits c =
 
 pub returns-clause-wrote : goal.returns-clause-wrote
 returns-clause-wrote c =
-    wrote_entry c.args.out.now c.put_front.new.out c.put_stamp-data.new.out c.write_bytes.new.out c.args.at (c.args.at + 64) c.put_stamp-data.result c.write_bytes.result c.args.head.now c.args.body.now
+    wrote_entry c.args.out.now c.put_front.new.out c.put_stamp-data.new.out c.write_bytes.new.out c.args.at (c.args.at + 64) c.put_stamp-data.result
+    c.write_bytes.result c.args.head.now c.args.body.now
     c.put_front.ensures.wrote c.put_stamp-data.ensures.wrote c.write_bytes.ensures.wrote

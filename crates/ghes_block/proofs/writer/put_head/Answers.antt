@@ -13,4 +13,5 @@ returns c =
     let w3 = next_field w2 c.write_u32-data_length_at.ensures.wrote in
     let w4 = next_field w3 c.write_u32-severity_at.ensures.wrote in
     let w5 = next_field w4 c.write_u32.ensures.wrote in
-    subst (λ (end : ℕ). Wrote c.args.out.now c.write_u32.new.out 0 end (joined (block_head c.args.status c.args.raw_offset c.args.raw_length c.args.data_length c.args.severity))) (omega arith) w5.wrote
+    subst (λ (end : ℕ). Wrote c.args.out.now c.write_u32.new.out 0 end
+    (joined (block_head c.args.status c.args.raw_offset c.args.raw_length c.args.data_length c.args.severity))) (omega arith) w5.wrote

@@ -52,7 +52,8 @@ join-requires-clause-may c =
     let range = c.in-Some.range.now in
     let here = next_at c.args.ranges.now c.loop-range.at c.in-Some.range.now c.in-Some.ensures.lookup.3.0 c.in-Some.ensures.lookup.1 in
     let (earlier, (free_at, (joined_at, mapped_at))) = inv.5 in
-    subst (λ (ws : List Window). MayJoin ws range) (sym c.deref.ensures.value) (may_join earlier c.loop-range.windows.items range (drop (at + 1) ranges) (subst (AreFree earlier) here free_at) joined_at)
+    subst (λ (ws : List Window). MayJoin ws range) (sym c.deref.ensures.value) (may_join earlier c.loop-range.windows.items range (drop (at + 1) ranges)
+    (subst (AreFree earlier) here free_at) joined_at)
 
 pub join-requires-clause-small : goal.join-requires-clause-small
 join-requires-clause-small c =

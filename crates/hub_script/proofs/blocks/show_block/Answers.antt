@@ -24,7 +24,8 @@ pub returns-in_err-make_room-clause-part : goal.returns-in_err-make_room-clause-
 returns-in_err-make_room-clause-part g c =
     let words = words_before_digits c.args.source c.args.block.now in
     on_err c.from_residual.result
-    (shown_part g.O.Sink.tells (g.O.Sink.written c.args.out.now) (g.O.Sink.written c.showing.out) (g.O.Sink.written c.make_room.new.out) c.showing.reply (words ++ encode_lower (take c.showing.at c.args.block.now))
+    (shown_part g.O.Sink.tells (g.O.Sink.written c.args.out.now) (g.O.Sink.written c.showing.out) (g.O.Sink.written c.make_room.new.out) c.showing.reply
+    (words ++ encode_lower (take c.showing.at c.args.block.now))
     (encode_lower (drop c.showing.at c.args.block.now) ++ 10 ∷ []) (reply_line (words_of_block c.args.source c.args.block.now)) c.showing.invariant.so (digits_rest words c.args.block.now c.showing.at)
     c.in_err-make_room.ensures.part)
 
@@ -38,7 +39,8 @@ showing-preserved g c =
     let test = c.showing-test.true in
     let end = c.min-end.ensures in
     record {
-      so = shown_more g.O.Sink.tells (g.O.Sink.written c.args.out.now) (g.O.Sink.written c.make_room.new.out) c.make_room.new.self c.add_hex.new.self (words ++ encode_lower (take c.showing.at c.args.block.now))
+      so = shown_more g.O.Sink.tells (g.O.Sink.written c.args.out.now) (g.O.Sink.written c.make_room.new.out) c.make_room.new.self c.add_hex.new.self
+          (words ++ encode_lower (take c.showing.at c.args.block.now))
           (words ++ encode_lower (take c.min-end.result c.args.block.now)) (encode_lower (take (c.min-end.result - c.showing.at) (drop c.showing.at c.args.block.now)))
           (shown_then _ _ _ _ _ c.showing.reply _ c.showing.invariant.so c.in_ok-make_room.ensures.shown) c.add_hex.ensures.text
           (more_digits words c.args.block.now c.showing.at c.min-end.result (omega (arith, end, within, test)));
@@ -51,8 +53,10 @@ pub returns-clause-all : goal.returns-clause-all
 returns-clause-all g c =
     let words = words_before_digits c.args.source c.args.block.now in
     on_ok_weaker c.write_all.result
-    (λ h. shown_all g.O.Sink.tells (g.O.Sink.written c.args.out.now) (g.O.Sink.written c.showing.out) (g.O.Sink.written c.write_all.new.sink) c.end_line.new.reply (reply_line (words_of_block c.args.source c.args.block.now))
-    (shown_more _ _ _ c.showing.reply c.end_line.new.reply (words ++ encode_lower (take c.showing.at c.args.block.now)) (reply_line (words_of_block c.args.source c.args.block.now)) (10 ∷ []) c.showing.invariant.so c.end_line.ensures
+    (λ h. shown_all g.O.Sink.tells (g.O.Sink.written c.args.out.now) (g.O.Sink.written c.showing.out) (g.O.Sink.written c.write_all.new.sink)
+    c.end_line.new.reply (reply_line (words_of_block c.args.source c.args.block.now))
+    (shown_more _ _ _ c.showing.reply c.end_line.new.reply (words ++ encode_lower (take c.showing.at c.args.block.now))
+    (reply_line (words_of_block c.args.source c.args.block.now)) (10 ∷ []) c.showing.invariant.so c.end_line.ensures
     (all_digits words c.args.block.now c.showing.at c.showing-test.false))
     (λ t. h t ∙ ap (λ (xs : List ℕ). g.O.Sink.written c.showing.out ++ xs) c.text.ensures)) c.write_all.ensures.all
 

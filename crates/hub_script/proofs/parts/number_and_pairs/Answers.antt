@@ -26,5 +26,6 @@ returns-in-Err-pairs c =
     let within = c.in-Err.ensures.within in
     let other = c.if-len-text.false in
     let most = c.in-Ok.ensures.1 in
-    number_goes c.args.text.now c.in-Ok.value c.in-Err.len c.in-Err-pairs.reach c.in-Err.ensures c.in-Ok.ensures.2 most (decimal_nonempty c.in-Ok.value (omega (arith, most))) (omega (arith, within, other)) c.if-text-len-ne32.false
+    number_goes c.args.text.now c.in-Ok.value c.in-Err.len c.in-Err-pairs.reach c.in-Err.ensures c.in-Ok.ensures.2 most
+    (decimal_nonempty c.in-Ok.value (omega (arith, most))) (omega (arith, within, other)) c.if-text-len-ne32.false
     (subst (λ (t : List ℕ). Breaks IsPairs t c.in-Err-pairs.reach) (between_to_end c.args.text.now _ _ (omega arith)) c.in-Err-pairs.ensures)

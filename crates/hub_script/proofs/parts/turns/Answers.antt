@@ -3,7 +3,8 @@ use Rattle.std.proofs.lemmas.Bool.{eqb-true, eqb-false}
 use Rattle.hub_script.specs.Turns.{AreTurns}
 use Rattle.script_lines.specs.Columns.{Breaks}
 use Rattle.hub_script.proofs.TurnLemmas.{AreGood, good_more, turns_at, turns_full, turns_end}
-use Rattle.hub_script.proofs.parts.turns.Goals.{then-is_empty-via-then-is_empty, then-is_empty-via-else-is_empty+then-text-eq1, then-i-eq-MAX_TURNS-via-then-i-eq-MAX_TURNS, then-i-eq-MAX_TURNS-via-else-i-eq-MAX_TURNS+then-not-may_stand}
+use Rattle.hub_script.proofs.parts.turns.Goals.{then-is_empty-via-then-is_empty, then-is_empty-via-else-is_empty+then-text-eq1}
+use Rattle.hub_script.proofs.parts.turns.Goals.{then-i-eq-MAX_TURNS-via-then-i-eq-MAX_TURNS, then-i-eq-MAX_TURNS-via-else-i-eq-MAX_TURNS+then-not-may_stand}
 use Rattle.hub_script.proofs.parts.turns.Goals as goal
 
 pub returns-then-i-eq-MAX_TURNS : goal.returns-then-i-eq-MAX_TURNS
@@ -11,7 +12,8 @@ returns-then-i-eq-MAX_TURNS c =
     elim c.then-i-eq-MAX_TURNS.branch [
       | then-i-eq-MAX_TURNS-via-then-i-eq-MAX_TURNS w ↦ subst (λ (k : ℕ). Breaks AreTurns c.args.text.now k) (sym w.if-i-eq-MAX_TURNS.true)
           (turns_full c.args.text.now (omega arith) (subst (λ (k : ℕ). AreGood c.args.text.now k) w.if-i-eq-MAX_TURNS.true c.loop-i.invariant.0))
-      | then-i-eq-MAX_TURNS-via-else-i-eq-MAX_TURNS+then-not-may_stand w ↦ turns_at c.args.text.now c.loop-i.i c.loop-i-test.true (let h = w.if-i-eq-MAX_TURNS.false in let h' = c.loop-i.invariant.1 in omega arith) c.loop-i.invariant.0
+      | then-i-eq-MAX_TURNS-via-else-i-eq-MAX_TURNS+then-not-may_stand w ↦ turns_at c.args.text.now c.loop-i.i c.loop-i-test.true
+          (let h = w.if-i-eq-MAX_TURNS.false in let h' = c.loop-i.invariant.1 in omega arith) c.loop-i.invariant.0
           (sym w.may_stand.ensures ∙ w.if-not-may_stand.true)
     ]
 

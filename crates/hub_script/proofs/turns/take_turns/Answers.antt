@@ -17,7 +17,8 @@ turning-init g c = record {
 pub take_turn-requires : goal.take_turn-requires
 take_turn-requires g c =
     let test = c.turning-test.true in
-    is_named (seen c.args.hub.now) (seen c.turning.hub) c.args.pairs.now c.turning.at c.source_of-source.result c.requires.named (omega (arith, test)) c.source_of-source.ensures c.turning.invariant.count
+    is_named (seen c.args.hub.now) (seen c.turning.hub) c.args.pairs.now c.turning.at c.source_of-source.result c.requires.named (omega (arith, test))
+    c.source_of-source.ensures c.turning.invariant.count
 
 pub say_event-requires : goal.say_event-requires
 say_event-requires g c =
@@ -63,6 +64,7 @@ returns g c =
       played = on_ok_weaker c.write_all.result
           (λ h. all_turned _ _ _ _ c.args.pairs.now c.turning.at _ _ _ _ all c.requires.named c.turning.invariant.so (lent_text _ _ _ _ _ c.text.ensures c.end_line.ensures h)) c.write_all.ensures.all;
       unwritten = on_err_weaker c.write_all.result
-          (λ h. all_unwritten _ _ _ _ c.args.pairs.now c.turning.at _ _ _ _ all c.requires.named c.turning.invariant.so (lent_part _ _ _ _ _ c.text.ensures c.end_line.ensures h)) c.write_all.ensures.part;
+          (λ h. all_unwritten _ _ _ _ c.args.pairs.now c.turning.at _ _ _ _ all c.requires.named c.turning.invariant.so
+          (lent_part _ _ _ _ _ c.text.ensures c.end_line.ensures h)) c.write_all.ensures.part;
       cause = same_cause _ _ _ c.write_all.result c.turning.invariant.faults c.write_all.ensures.cause;
     }

@@ -19,7 +19,8 @@ loop-number-preserved c =
     let few = (first_names geometry c.args.slot c.args.image.now head c.requires.head c.requires.slot c.requires.first three).few in
     let low : c.loop-number.number < parts_of room c.args.head.now.len = omega (arith, c.parts_of-number-end.ensures) in
     c.in_ok-add_part.ensures
-    ∙ ap (λ (xs : List ℕ). xs ++ take (part_len room c.args.head.now.len c.loop-number.number) (slot_at geometry.slot_size c.args.image.now (slot_of_part c.args.slot head c.loop-number.number)).body) c.loop-number.invariant
+    ∙ ap (λ (xs : List ℕ). xs ++ take (part_len room c.args.head.now.len c.loop-number.number)
+    (slot_at geometry.slot_size c.args.image.now (slot_of_part c.args.slot head c.loop-number.number)).body) c.loop-number.invariant
     ∙ sym (joined_more room c.args.slot head (slot_at geometry.slot_size c.args.image.now) c.loop-number.number three few low)
 
 pub returns : goal.returns

@@ -8,8 +8,11 @@ use Rattle.item_parts.proofs.hests.part.Goals as goal
 pub returns-in-Ok-clause-found : goal.returns-in-Ok-clause-found
 returns-in-Ok-clause-found c =
     let sources = c.in-Ok.hest in
-    let found = c.in-Ok.ensures.found in
-    (source_parts 40 sources, (c.in-Ok._size, found.0, (sources, found.1, refl)), c.part_of.ensures ∙ ap (λ (sources : List HestSource). slice_get (source_parts 40 sources) c.args.index) c.sources.ensures)
+    let found = c.in-Ok.ensures.found in (
+      source_parts 40 sources,
+      (c.in-Ok._size, found.0, (sources, found.1, refl)),
+      c.part_of.ensures ∙ ap (λ (sources : List HestSource). slice_get (source_parts 40 sources) c.args.index) c.sources.ensures,
+    )
 
 pub returns-in-Ok-clause-only : goal.returns-in-Ok-clause-only
 returns-in-Ok-clause-only c = λ parts begins.

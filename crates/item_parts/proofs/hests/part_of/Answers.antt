@@ -10,7 +10,20 @@ use Rattle.item_parts.proofs.hests.part_of.Goals as goal
 
 -- what is read where there is none
 abbrev blank : HestSource
-blank = Ghes (record { id = 0; related = 0; flags = 0; enabled = 0; records = 0; sections = 0; raw = 0; status = record { space = 0; width = 0; offset = 0; access = 0; address = 0 }; notify = []; block_len = 0; ack = None })
+blank = Ghes (record {
+  id = 0;
+  related = 0;
+  flags = 0;
+  enabled = 0;
+  records = 0;
+  sections = 0;
+  raw = 0;
+  status =
+      record { space = 0; width = 0; offset = 0; access = 0; address = 0 };
+  notify = [];
+  block_len = 0;
+  ack = None;
+})
 
 pub loop-place-init : goal.loop-place-init
 loop-place-init c = record { at_is = source_place_first 40 c.args.sources.now; small = omega arith; low = omega arith }

@@ -33,7 +33,8 @@ loop-slot-preserved g c =
       power = c.look.ensures.stays.power ∙ before.power;
       reads = let first = before.reads in let second = c.look.ensures.stays.reads in omega arith;
       unread = λ none. absurd (omega arith);
-      counted = λ some. one_look c.loop-slot.slot (g.F.Flash.state c.args.flash.now).reads (g.F.Flash.state c.loop-slot.flash).reads (g.F.Flash.state c.look.new.flash).reads before.unread before.counted count;
+      counted = λ some. one_look c.loop-slot.slot (g.F.Flash.state c.args.flash.now).reads (g.F.Flash.state c.loop-slot.flash).reads
+          (g.F.Flash.state c.look.new.flash).reads before.unread before.counted count;
       powered = λ some. c.in_ok-head.ensures.stays.powered;
       lit = lit_then _ _ _ before.power before.lit c.look.ensures.stays.lit;
       faults = c.in_ok-head.ensures.stays.cause.ok ∙ before.faults;

@@ -28,6 +28,7 @@ loop-slot-preserved c =
       free = c.list_if_free.ensures.items
           ∙ ap (λ (numbers : List ℕ). with_number (not (get_or c.mark_taken.new.marks c.loop-slot.slot false)) c.loop-slot.slot numbers) c.loop-slot.invariant.free
           ∙ ap (λ (b : Bool). with_number (not b) c.loop-slot.slot (list_below test c.loop-slot.slot)) (c.mark_taken.ensures c.loop-slot.slot false c.loop-slot-test.true)
-          ∙ ap (λ (ps : List SlotOf). with_number (not (list_any (λ place. takes (c.args.geometry.now.slot_size - 64) place c.loop-slot.slot) ps)) c.loop-slot.slot (list_below test c.loop-slot.slot)) marks
+          ∙ ap (λ (ps : List SlotOf). with_number (not (list_any (λ place. takes (c.args.geometry.now.slot_size - 64) place c.loop-slot.slot) ps))
+          c.loop-slot.slot (list_below test c.loop-slot.slot)) marks
           ∙ sym (list_below-more test c.loop-slot.slot);
     }

@@ -48,7 +48,8 @@ kept g c tells =
 pub returns-then-not-is_upright-clause-settled : goal.returns-then-not-is_upright-clause-settled
 returns-then-not-is_upright-clause-settled g c tells start had =
     settled_kept c.args.geometry.now.slot_size c.args.geometry.now.slots c.args.slot start (g.F.Flash.state c.args.flash.now) c.args.found.now
-    (λ up. absurd (both_ways _ (looked_up c.args.geometry.now.slot_size c.args.geometry.now.slots c.args.slot (g.F.Flash.state c.args.flash.now).told.image c.index-look.result.now c.args.found.now.looks.items false
+    (λ up. absurd (both_ways _ (looked_up c.args.geometry.now.slot_size c.args.geometry.now.slots c.args.slot (g.F.Flash.state c.args.flash.now).told.image
+    c.index-look.result.now c.args.found.now.looks.items false
     (c.requires.seen tells) c.index-look.ensures c.if-not-is_upright.ensures) up)) had
 
 pub returns-then-not-is_upright-clause-crash : goal.returns-then-not-is_upright-clause-crash
@@ -72,7 +73,9 @@ pub kill-requires-clause-erased : goal.kill-requires-clause-erased
 kill-requires-clause-erased g c tells =
     let least : 512 ≤ c.args.geometry.now.slot_size = c.args.geometry.now.least_slot in
     kill_can c.args.geometry.now.slot_size c.args.geometry.now.slots c.args.slot (g.F.Flash.state c.args.flash.now).told.image
-    (omega arith) c.requires.slot (g.met.F.Flash.sized c.args.flash.now tells ∙ c.requires.fits.size) (looked_up c.args.geometry.now.slot_size c.args.geometry.now.slots c.args.slot (g.F.Flash.state c.args.flash.now).told.image c.index-look.result.now c.args.found.now.looks.items true
+    (omega arith) c.requires.slot (g.met.F.Flash.sized c.args.flash.now tells ∙ c.requires.fits.size)
+    (looked_up c.args.geometry.now.slot_size c.args.geometry.now.slots c.args.slot (g.F.Flash.state c.args.flash.now).told.image c.index-look.result.now
+    c.args.found.now.looks.items true
     (c.requires.seen tells) c.index-look.ensures c.if-not-is_upright.ensures)
 
 pub returns-in_err-kill-clause-crash : goal.returns-in_err-kill-clause-crash
@@ -94,7 +97,8 @@ returns-in_err-kill-clause-failed g c = on_err c.from_residual.result (λ tells.
 pub returns-clause-settled : goal.returns-clause-settled
 returns-clause-settled g c tells start had =
     let least : 512 ≤ c.args.geometry.now.slot_size = c.args.geometry.now.least_slot in
-    settled_killed c.args.geometry.now.slot_size c.args.geometry.now.slots c.args.slot start (g.F.Flash.state c.args.flash.now) (g.F.Flash.state c.kill.new.flash) c.args.found.now (omega arith) c.requires.slot
+    settled_killed c.args.geometry.now.slot_size c.args.geometry.now.slots c.args.slot start (g.F.Flash.state c.args.flash.now)
+    (g.F.Flash.state c.kill.new.flash) c.args.found.now (omega arith) c.requires.slot
     (upright g (goal.at.returns-clause-settled g c).After-kill tells) (not_chosen g (goal.at.returns-clause-settled g c).After-kill tells)
     (c.in_ok-kill.ensures.change.done tells) (c.in_ok-kill.ensures.stands tells) had
 

@@ -22,12 +22,14 @@ loop-slot-init g c = record {
 
 pub returns-in_err-settle_slot-clause-crash : goal.returns-in_err-settle_slot-clause-crash
 returns-in_err-settle_slot-clause-crash g c tells =
-    KeepsRecords-then c.args.geometry.now.slot_size c.args.geometry.now.slots (g.F.Flash.state c.args.flash.now).told (g.F.Flash.state c.loop-slot.flash).told (g.F.Flash.state c.settle_slot.new.flash).told
+    KeepsRecords-then c.args.geometry.now.slot_size c.args.geometry.now.slots (g.F.Flash.state c.args.flash.now).told (g.F.Flash.state c.loop-slot.flash).told
+    (g.F.Flash.state c.settle_slot.new.flash).told
     (c.loop-slot.invariant.crash tells) (c.settle_slot.ensures.crash tells)
 
 pub returns-in_err-settle_slot-clause-nearly : goal.returns-in_err-settle_slot-clause-nearly
 returns-in_err-settle_slot-clause-nearly g c tells =
-    StaysNearly-then c.args.geometry.now.slot_size c.args.geometry.now.slots (g.F.Flash.state c.args.flash.now).told (g.F.Flash.state c.loop-slot.flash).told (g.F.Flash.state c.settle_slot.new.flash).told
+    StaysNearly-then c.args.geometry.now.slot_size c.args.geometry.now.slots (g.F.Flash.state c.args.flash.now).told (g.F.Flash.state c.loop-slot.flash).told
+    (g.F.Flash.state c.settle_slot.new.flash).told
     (c.loop-slot.invariant.nearly tells) (c.settle_slot.ensures.nearly tells)
 
 pub returns-in_err-settle_slot-clause-changes : goal.returns-in_err-settle_slot-clause-changes
@@ -49,10 +51,12 @@ loop-slot-preserved g c = record {
   later = let first = c.loop-slot.invariant.later in let second = c.in_ok-settle_slot.ensures.stays.later in omega arith;
   faults = c.in_ok-settle_slot.ensures.stays.cause.ok ∙ c.loop-slot.invariant.faults;
   crash = λ tells.
-      KeepsRecords-then c.args.geometry.now.slot_size c.args.geometry.now.slots (g.F.Flash.state c.args.flash.now).told (g.F.Flash.state c.loop-slot.flash).told (g.F.Flash.state c.settle_slot.new.flash).told
+      KeepsRecords-then c.args.geometry.now.slot_size c.args.geometry.now.slots (g.F.Flash.state c.args.flash.now).told (g.F.Flash.state c.loop-slot.flash).told
+      (g.F.Flash.state c.settle_slot.new.flash).told
       (c.loop-slot.invariant.crash tells) (c.settle_slot.ensures.crash tells);
   nearly = λ tells.
-      StaysNearly-then c.args.geometry.now.slot_size c.args.geometry.now.slots (g.F.Flash.state c.args.flash.now).told (g.F.Flash.state c.loop-slot.flash).told (g.F.Flash.state c.settle_slot.new.flash).told
+      StaysNearly-then c.args.geometry.now.slot_size c.args.geometry.now.slots (g.F.Flash.state c.args.flash.now).told (g.F.Flash.state c.loop-slot.flash).told
+      (g.F.Flash.state c.settle_slot.new.flash).told
       (c.loop-slot.invariant.nearly tells) (c.settle_slot.ensures.nearly tells);
   order = λ tells. Kill c.loop-slot.slot (c.loop-slot.slot + 1) _ _ (c.loop-slot.invariant.order tells) (omega arith) (c.settle_slot.ensures.change tells);
   counted = λ tells.
@@ -62,4 +66,5 @@ loop-slot-preserved g c = record {
 }
 
 pub returns-clause-changes : goal.returns-clause-changes
-returns-clause-changes g c tells = ChangesFew-counted c.args.geometry.now.slot_size c.args.geometry.now.slots (g.F.Flash.state c.args.flash.now) (g.F.Flash.state c.loop-slot.flash) (c.loop-slot.invariant.counted tells)
+returns-clause-changes g c tells = ChangesFew-counted c.args.geometry.now.slot_size c.args.geometry.now.slots (g.F.Flash.state c.args.flash.now)
+    (g.F.Flash.state c.loop-slot.flash) (c.loop-slot.invariant.counted tells)

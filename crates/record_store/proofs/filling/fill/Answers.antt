@@ -16,4 +16,6 @@ put_tail-requires-clause-erased g c tells =
     let long : length target.bytes ≡ part_len (size - 64) (length c.args.body.now) c.args.number = target_len c.args.geometry.now c.args.draft.now c.args.body.now c.args.number in
     let most : part_len (size - 64) (length c.args.body.now) c.args.number ≤ size - 64 = part_fits (size - 64) (length c.args.body.now) c.args.number in
     rest_here (g.F.Flash.state c.args.flash.now).told.image c.from-slot.result size target (length target.bytes) (size - 1) 1
-    (target_slot c.args.geometry.now c.args.draft.now c.args.body.now c.args.number c.requires.number ∙ sym c.from-slot.ensures) (subst (λ (s : Step). StandsAt (layout_of c.args.geometry.now) target (g.F.Flash.state c.args.flash.now).told.image (step_of s)) c.in-TailMark.is (c.requires.stands tells)) (omega arith) (omega arith)
+    (target_slot c.args.geometry.now c.args.draft.now c.args.body.now c.args.number c.requires.number ∙ sym c.from-slot.ensures)
+    (subst (λ (s : Step). StandsAt (layout_of c.args.geometry.now) target (g.F.Flash.state c.args.flash.now).told.image (step_of s)) c.in-TailMark.is
+    (c.requires.stands tells)) (omega arith) (omega arith)

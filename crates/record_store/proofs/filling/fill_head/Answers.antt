@@ -9,7 +9,8 @@ use Rattle.record_store.proofs.filling.fill_head.Goals as goal
 pub put_head-requires-clause-erased : goal.put_head-requires-clause-erased
 put_head-requires-clause-erased g c tells =
     let large : 512 ≤ c.args.geometry.now.slot_size = c.args.geometry.now.least_slot in
-    erased_here (g.F.Flash.state c.args.flash.now).told.image c.from-slot.result (target_of (layout_of c.args.geometry.now) (plan_of c.args.draft.now c.args.body.now) c.args.number).slot c.args.geometry.now.slot_size 2 24
+    erased_here (g.F.Flash.state c.args.flash.now).told.image c.from-slot.result
+    (target_of (layout_of c.args.geometry.now) (plan_of c.args.draft.now c.args.body.now) c.args.number).slot c.args.geometry.now.slot_size 2 24
     (target_slot c.args.geometry.now c.args.draft.now c.args.body.now c.args.number c.requires.number ∙ sym c.from-slot.ensures) (c.requires.stands tells) (omega arith)
 
 pub put_part_head-requires-clause-erased : goal.put_part_head-requires-clause-erased

@@ -18,7 +18,8 @@ loop-at-preserved c =
     let parts = parts_of_len c.args.geometry.now c.args.place.len c.requires.within.least c.requires.within.most in
     let three : c.loop-at.at < length c.args.place.next = omega (arith, c.parts_of-further.ensures) in
     record {
-      gains = gains_next c.args.found.now.free.items c.loop-at.found.free.items c.list_free-in-loop-at.new.found.free.items c.args.place.next c.args.place.slot c.loop-at.at three c.loop-at.invariant.gains (rw c.from.ensures at c.list_free-in-loop-at.ensures.gains);
+      gains = gains_next c.args.found.now.free.items c.loop-at.found.free.items c.list_free-in-loop-at.new.found.free.items c.args.place.next c.args.place.slot
+          c.loop-at.at three c.loop-at.invariant.gains (rw c.from.ensures at c.list_free-in-loop-at.ensures.gains);
       free = c.list_free-in-loop-at.ensures.free;
       room = omega arith;
       ids = c.list_free-in-loop-at.ensures.ids ∙ c.loop-at.invariant.ids;

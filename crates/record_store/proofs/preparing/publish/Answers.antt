@@ -20,14 +20,16 @@ pub returns-clause-crash : goal.returns-clause-crash
 returns-clause-crash g c tells =
     gate_leaves (layout_of c.args.geometry.now) (plan_of c.args.draft.now c.args.body.now) (g.F.Flash.state c.args.flash.now).told (g.F.Flash.state c.open_gate.new.flash).told
     c.requires.draft.plan (c.requires.knows tells) (c.requires.stands tells)
-    (subst (λ (k : ℕ). MayChange (k * c.args.geometry.now.slot_size) 1 (g.F.Flash.state c.args.flash.now).told (g.F.Flash.state c.open_gate.new.flash).told) c.from-slot.ensures (c.open_gate.ensures.change.told tells))
+    (subst (λ (k : ℕ). MayChange (k * c.args.geometry.now.slot_size) 1 (g.F.Flash.state c.args.flash.now).told (g.F.Flash.state c.open_gate.new.flash).told)
+    c.from-slot.ensures (c.open_gate.ensures.change.told tells))
 
 pub returns-clause-opened : goal.returns-clause-opened
 returns-clause-opened g c =
     on_ok_both c.open_gate.result (λ gate done tells.
     gate_opens (layout_of c.args.geometry.now) (plan_of c.args.draft.now c.args.body.now) (g.F.Flash.state c.args.flash.now).told.image (g.F.Flash.state c.open_gate.new.flash).told.image
     c.requires.draft.plan (c.requires.knows tells) (c.requires.stands tells)
-    (subst (λ (k : ℕ). SameOutside (k * c.args.geometry.now.slot_size) 1 (g.F.Flash.state c.args.flash.now).told.image (g.F.Flash.state c.open_gate.new.flash).told.image) c.from-slot.ensures (done tells).image)
+    (subst (λ (k : ℕ). SameOutside (k * c.args.geometry.now.slot_size) 1 (g.F.Flash.state c.args.flash.now).told.image
+    (g.F.Flash.state c.open_gate.new.flash).told.image) c.from-slot.ensures (done tells).image)
     (subst (λ (k : ℕ). number_at (g.F.Flash.state c.open_gate.new.flash).told.image (k * c.args.geometry.now.slot_size) 1 ≡ gate_open) c.from-slot.ensures (gate tells)))
     c.open_gate.ensures.stands c.open_gate.ensures.change.done
   where

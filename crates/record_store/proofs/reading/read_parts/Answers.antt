@@ -8,7 +8,12 @@ use Rattle.record_store.proofs.ReadLemmas.{reads_none, reads_more, reads_ok, rea
 use Rattle.record_store.proofs.reading.read_parts.Goals as goal
 
 pub loop-number-init : goal.loop-number-init
-loop-number-init g c = record { reads = reads_none g.F.Flash.tells (g.F.Flash.state c.args.flash.now); whole = c.requires.whole; bytes = λ tells. let none : 0 * (c.args.geometry.now.slot_size - 64) ≡ 0 = omega arith in ap (λ (n : ℕ). take n c.args.buffer.now) none }
+loop-number-init g c = record {
+  reads = reads_none g.F.Flash.tells (g.F.Flash.state c.args.flash.now);
+  whole = c.requires.whole;
+  bytes =
+      λ tells. let none : 0 * (c.args.geometry.now.slot_size - 64) ≡ 0 = omega arith in ap (λ (n : ℕ). take n c.args.buffer.now) none;
+}
 
 pub loop-number-preserved : goal.loop-number-preserved
 loop-number-preserved g c =
@@ -27,9 +32,11 @@ loop-number-preserved g c =
       whole = c.read_part.auto.buffer ∙ before.whole;
       bytes = λ tells.
           c.in_ok-read_part.ensures.bytes tells
-          ∙ ap (λ (t : Told). take (number * room) c.loop-number.buffer ++ take (part_len room c.args.place.len number) (slot_at geometry.slot_size t.image (slot_of_part c.args.place number)).body) (before.reads.told tells)
+          ∙ ap (λ (t : Told). take (number * room) c.loop-number.buffer ++ take (part_len room c.args.place.len number)
+          (slot_at geometry.slot_size t.image (slot_of_part c.args.place number)).body) (before.reads.told tells)
           ∙ ap (λ (xs : List ℕ). xs ++ take (part_len room c.args.place.len number) (slot_at geometry.slot_size image (slot_of_part c.args.place number)).body) (before.bytes tells)
-          ∙ sym (joined_more room c.args.place.len (slot_at geometry.slot_size image) (slots_at room c.args.place) number (slot_of_part c.args.place number) (omega arith) (slot_is room c.args.place number low));
+          ∙ sym (joined_more room c.args.place.len (slot_at geometry.slot_size image) (slots_at room c.args.place) number (slot_of_part c.args.place number)
+          (omega arith) (slot_is room c.args.place number low));
     }
 
 pub returns-clause-bytes : goal.returns-clause-bytes
@@ -45,5 +52,6 @@ returns-clause-bytes g c tells =
 pub returns-clause-stays : goal.returns-clause-stays
 returns-clause-stays g c =
     let parts = parts_of_len c.args.geometry.now c.args.place.len c.requires.within.least c.requires.within.most in
-    reads_ok g.F.Flash.tells c.loop-number.number (parts_of (c.args.geometry.now.slot_size - 64) c.args.place.len) (g.F.Flash.state c.args.flash.now) (g.F.Flash.state c.loop-number.flash) _ c.loop-number.invariant.reads
+    reads_ok g.F.Flash.tells c.loop-number.number (parts_of (c.args.geometry.now.slot_size - 64) c.args.place.len) (g.F.Flash.state c.args.flash.now)
+    (g.F.Flash.state c.loop-number.flash) _ c.loop-number.invariant.reads
     (omega (arith, c.parts_of-number-end.ensures)) (omega (arith, c.parts_of-number-end.ensures))

@@ -16,20 +16,31 @@ kill-requires-clause-erased g c tells =
 
 -- what power lost in the kill leaves
 torn : (g : given.Over) (c : goal.After-kill g) (buffer : List ℕ) → g.F.Flash.tells
-    → MayMake c.args.geometry.now (pending_of (layout_of c.args.geometry.now) buffer (OldCopy c.args.draft.now c.args.place)) (g.F.Flash.state c.args.flash.now).told (g.F.Flash.state c.kill.new.flash).told
+    → MayMake c.args.geometry.now (pending_of (layout_of c.args.geometry.now) buffer (OldCopy c.args.draft.now c.args.place))
+    (g.F.Flash.state c.args.flash.now).told (g.F.Flash.state c.kill.new.flash).told
     × NearlyOnlyFirstUp c.args.geometry.now.slot_size c.args.geometry.now.slots (g.F.Flash.state c.kill.new.flash).told.image
 torn g c buffer tells = (
-  old_copy_may c.args.geometry.now c.args.found.now buffer c.args.draft.now c.args.place (g.F.Flash.state c.args.flash.now).told (g.F.Flash.state c.kill.new.flash).told (c.requires.knows tells) (c.kill.ensures.change.told tells),
-  old_copy_spare c.args.geometry.now c.args.found.now c.args.draft.now c.args.place (g.F.Flash.state c.args.flash.now).told (g.F.Flash.state c.kill.new.flash).told (c.requires.knows tells) (c.kill.ensures.change.told tells),
+  old_copy_may c.args.geometry.now c.args.found.now buffer c.args.draft.now c.args.place (g.F.Flash.state c.args.flash.now).told
+      (g.F.Flash.state c.kill.new.flash).told (c.requires.knows tells) (c.kill.ensures.change.told tells),
+  old_copy_spare c.args.geometry.now c.args.found.now c.args.draft.now c.args.place (g.F.Flash.state c.args.flash.now).told
+      (g.F.Flash.state c.kill.new.flash).told (c.requires.knows tells) (c.kill.ensures.change.told tells),
 )
 
 pub returns-in_err-kill-clause-makes : goal.returns-in_err-kill-clause-makes
 returns-in_err-kill-clause-makes g c buffer =
-    record { made = search rules; crash = λ tells. (torn g (goal.at.returns-in_err-kill-clause-makes g c).After-kill buffer tells).0; spare = λ tells. (torn g (goal.at.returns-in_err-kill-clause-makes g c).After-kill buffer tells).1; change = search rules; lit = search rules }
+    record {
+      made = search rules;
+      crash = λ tells. (torn g (goal.at.returns-in_err-kill-clause-makes g c).After-kill buffer tells).0;
+      spare =
+          λ tells. (torn g (goal.at.returns-in_err-kill-clause-makes g c).After-kill buffer tells).1;
+      change = search rules;
+      lit = search rules;
+    }
 
 pub returns-clause-makes : goal.returns-clause-makes
 returns-clause-makes g c buffer = record {
-  made = old_copy_made g.F.Flash.tells c.args.geometry.now c.args.found.now c.copy_killed.new.found buffer c.args.draft.now c.args.place (g.F.Flash.state c.args.flash.now).told (g.F.Flash.state c.kill.new.flash).told
+  made = old_copy_made g.F.Flash.tells c.args.geometry.now c.args.found.now c.copy_killed.new.found buffer c.args.draft.now c.args.place
+      (g.F.Flash.state c.args.flash.now).told (g.F.Flash.state c.kill.new.flash).told
       (λ tells. g.met.F.Flash.sized c.args.flash.now tells ∙ c.requires.fits.size) c.requires.knows c.kill.ensures.change.told c.in_ok-kill.ensures.stands c.copy_killed.ensures.list;
   crash = λ tells. (torn g (goal.at.returns-clause-makes g c).After-kill buffer tells).0;
   spare = λ tells. (torn g (goal.at.returns-clause-makes g c).After-kill buffer tells).1;

@@ -12,24 +12,35 @@ use Rattle.record_store.proofs.Words.{MayMake}
 
 pub kill-requires-clause-erased : goal.kill-requires-clause-erased
 kill-requires-clause-erased g c tells =
-    can_be_killed c.args.geometry.now c.args.place.slot _ (c.requires.knows tells).held.chosen (g.met.F.Flash.sized c.args.flash.now tells ∙ c.requires.fits.size) ((c.requires.knows tells).held.is).here
+    can_be_killed c.args.geometry.now c.args.place.slot _ (c.requires.knows tells).held.chosen (g.met.F.Flash.sized c.args.flash.now tells
+    ∙ c.requires.fits.size) ((c.requires.knows tells).held.is).here
 
 -- what power lost in the kill leaves
 torn : (g : given.Over) (c : goal.After-kill g) (buffer : List ℕ) → g.F.Flash.tells
     → MayMake c.args.geometry.now (pending_of (layout_of c.args.geometry.now) buffer (Clear c.args.id c.args.place)) (g.F.Flash.state c.args.flash.now).told (g.F.Flash.state c.kill.new.flash).told
     × NearlyOnlyFirstUp c.args.geometry.now.slot_size c.args.geometry.now.slots (g.F.Flash.state c.kill.new.flash).told.image
 torn g c buffer tells = (
-  cleared_may c.args.geometry.now c.args.found.now buffer c.args.id c.args.place (g.F.Flash.state c.args.flash.now).told (g.F.Flash.state c.kill.new.flash).told (c.requires.knows tells) (c.kill.ensures.change.told tells),
-  cleared_spare c.args.geometry.now c.args.found.now c.args.id c.args.place (g.F.Flash.state c.args.flash.now).told (g.F.Flash.state c.kill.new.flash).told (c.requires.knows tells) (c.kill.ensures.change.told tells),
+  cleared_may c.args.geometry.now c.args.found.now buffer c.args.id c.args.place (g.F.Flash.state c.args.flash.now).told (g.F.Flash.state c.kill.new.flash).told
+      (c.requires.knows tells) (c.kill.ensures.change.told tells),
+  cleared_spare c.args.geometry.now c.args.found.now c.args.id c.args.place (g.F.Flash.state c.args.flash.now).told (g.F.Flash.state c.kill.new.flash).told
+      (c.requires.knows tells) (c.kill.ensures.change.told tells),
 )
 
 pub returns-in_err-kill-clause-makes : goal.returns-in_err-kill-clause-makes
 returns-in_err-kill-clause-makes g c buffer =
-    record { made = search rules; crash = λ tells. (torn g (goal.at.returns-in_err-kill-clause-makes g c).After-kill buffer tells).0; spare = λ tells. (torn g (goal.at.returns-in_err-kill-clause-makes g c).After-kill buffer tells).1; change = search rules; lit = search rules }
+    record {
+      made = search rules;
+      crash = λ tells. (torn g (goal.at.returns-in_err-kill-clause-makes g c).After-kill buffer tells).0;
+      spare =
+          λ tells. (torn g (goal.at.returns-in_err-kill-clause-makes g c).After-kill buffer tells).1;
+      change = search rules;
+      lit = search rules;
+    }
 
 pub returns-clause-makes : goal.returns-clause-makes
 returns-clause-makes g c buffer = record {
-  made = cleared_made g.F.Flash.tells c.args.geometry.now c.args.found.now c.record_cleared.new.found buffer c.args.id c.args.place (g.F.Flash.state c.args.flash.now).told (g.F.Flash.state c.kill.new.flash).told
+  made = cleared_made g.F.Flash.tells c.args.geometry.now c.args.found.now c.record_cleared.new.found buffer c.args.id c.args.place
+      (g.F.Flash.state c.args.flash.now).told (g.F.Flash.state c.kill.new.flash).told
       (λ tells. g.met.F.Flash.sized c.args.flash.now tells ∙ c.requires.fits.size) c.requires.knows c.kill.ensures.change.told c.in_ok-kill.ensures.stands c.record_cleared.ensures.list;
   crash = λ tells. (torn g (goal.at.returns-clause-makes g c).After-kill buffer tells).0;
   spare = λ tells. (torn g (goal.at.returns-clause-makes g c).After-kill buffer tells).1;

@@ -16,20 +16,24 @@ with_answer tells kept old new before now next error (Err other) is P failed mak
 
 pub returns-in_err-next-in-OldCopy-clause-makes : goal.returns-in_err-next-in-OldCopy-clause-makes
 returns-in_err-next-in-OldCopy-clause-makes g c =
-    with_answer g.F.Flash.tells (kept_of c.args.geometry.now c.end_old_copy.new.found c.args.buffer.now) (g.F.Flash.state c.args.flash.now) (g.F.Flash.state c.end_old_copy.new.flash) _ c.args.work.now _ _ _
+    with_answer g.F.Flash.tells (kept_of c.args.geometry.now c.end_old_copy.new.found c.args.buffer.now) (g.F.Flash.state c.args.flash.now)
+    (g.F.Flash.state c.end_old_copy.new.flash) _ c.args.work.now _ _ _
     c.in-OldCopy.is _ (c.from_residual-in_err-next-in-OldCopy.ensures).1 ((c.in_err-next-in-OldCopy.ensures).makes c.args.buffer.now)
 
 pub returns-in_err-next-in-Clear-clause-makes : goal.returns-in_err-next-in-Clear-clause-makes
 returns-in_err-next-in-Clear-clause-makes g c =
-    with_answer g.F.Flash.tells (kept_of c.args.geometry.now c.end_record.new.found c.args.buffer.now) (g.F.Flash.state c.args.flash.now) (g.F.Flash.state c.end_record.new.flash) _ c.args.work.now _ _ _
+    with_answer g.F.Flash.tells (kept_of c.args.geometry.now c.end_record.new.found c.args.buffer.now) (g.F.Flash.state c.args.flash.now)
+    (g.F.Flash.state c.end_record.new.flash) _ c.args.work.now _ _ _
     c.in-Clear.is _ (c.from_residual-in_err-next-in-Clear.ensures).1 ((c.in_err-next-in-Clear.ensures).makes c.args.buffer.now)
 
 pub returns-in_ok-next-in-OldCopy-clause-makes : goal.returns-in_ok-next-in-OldCopy-clause-makes
 returns-in_ok-next-in-OldCopy-clause-makes g c =
-    subst (λ (w : Begun). MakesChange g.F.Flash.tells (kept_of c.args.geometry.now c.end_old_copy.new.found c.args.buffer.now) (g.F.Flash.state c.args.flash.now) (g.F.Flash.state c.end_old_copy.new.flash) w (Ok c.in_ok-next-in-OldCopy.next))
+    subst (λ (w : Begun). MakesChange g.F.Flash.tells (kept_of c.args.geometry.now c.end_old_copy.new.found c.args.buffer.now)
+    (g.F.Flash.state c.args.flash.now) (g.F.Flash.state c.end_old_copy.new.flash) w (Ok c.in_ok-next-in-OldCopy.next))
     (sym c.in-OldCopy.is) ((c.in_ok-next-in-OldCopy.ensures).makes c.args.buffer.now)
 
 pub returns-in_ok-next-in-Clear-clause-makes : goal.returns-in_ok-next-in-Clear-clause-makes
 returns-in_ok-next-in-Clear-clause-makes g c =
-    subst (λ (w : Begun). MakesChange g.F.Flash.tells (kept_of c.args.geometry.now c.end_record.new.found c.args.buffer.now) (g.F.Flash.state c.args.flash.now) (g.F.Flash.state c.end_record.new.flash) w (Ok c.in_ok-next-in-Clear.next))
+    subst (λ (w : Begun). MakesChange g.F.Flash.tells (kept_of c.args.geometry.now c.end_record.new.found c.args.buffer.now) (g.F.Flash.state c.args.flash.now)
+    (g.F.Flash.state c.end_record.new.flash) w (Ok c.in_ok-next-in-Clear.next))
     (sym c.in-Clear.is) ((c.in_ok-next-in-Clear.ensures).makes c.args.buffer.now)

@@ -46,9 +46,12 @@ returns-clause-makes g c =
           (λ tells. MayChange-same (get_or draft.slots 0 0 * geometry.slot_size) 1 old new (c.publish.ensures.change.told tells))
           (λ tells.
           c.record_opened.ensures.list (entry_at geometry.slot_size geometry.slots old.image) (entry_at geometry.slot_size geometry.slots new.image) (record_for (plan_of draft body))
-          (subst (λ (p : SlotOf). HasOpened (entry_at geometry.slot_size geometry.slots old.image) (entry_at geometry.slot_size geometry.slots new.image) geometry.slots p.slot (record_for (plan_of draft body))) (sym is)
+          (subst (λ (p : SlotOf). HasOpened (entry_at geometry.slot_size geometry.slots old.image) (entry_at geometry.slot_size geometry.slots new.image)
+          geometry.slots p.slot (record_for (plan_of draft body))) (sym is)
           (has_opened geometry c.args.found.now draft body old.image new.image Gate c.args.replaced (c.requires.knows tells) (c.in_ok-publish.ensures.opened tells)))
-          (subst (λ (p : SlotOf). IsEntryOf draft.id p (record_for (plan_of draft body))) (sym is) (opened_entry_of geometry draft body c.requires.form.planned c.opened_place-place.ensures.four)) (ap (λ (p : SlotOf). p.slot ∷ further_in draft) is ∙ c.requires.form.takes.1) (c.requires.knows tells).slots.list));
+          (subst (λ (p : SlotOf). IsEntryOf draft.id p (record_for (plan_of draft body))) (sym is) (opened_entry_of geometry draft body c.requires.form.planned
+          c.opened_place-place.ensures.four)) (ap (λ (p : SlotOf). p.slot ∷ further_in draft) is ∙ c.requires.form.takes.1)
+          (c.requires.knows tells).slots.list));
       crash = λ tells.
           gate_may geometry c.args.found.now buffer draft c.args.replaced old new
           c.requires.form.planned (c.requires.knows tells) (c.publish.ensures.crash tells);

@@ -15,7 +15,8 @@ returns-in-None c =
 pub loop-i-preserved : goal.loop-i-preserved
 loop-i-preserved c =
     let is = c.in-Some.ensures in
-    read_more c.args.least c.args.most c.loop-i.value c.in-Some.next c.loop-i.i is.0 _ c.args.text.now (omega arith) c.loop-i-test.true refl c.loop-i.invariant (no_zero c.else-i-gt0.either) is.1 is.2 is.3 is.4 is.5
+    read_more c.args.least c.args.most c.loop-i.value c.in-Some.next c.loop-i.i is.0 _ c.args.text.now (omega arith) c.loop-i-test.true refl c.loop-i.invariant
+    (no_zero c.else-i-gt0.either) is.1 is.2 is.3 is.4 is.5
   where
     no_zero : (0 < c.loop-i.i) × (c.loop-i.value ≡ 0 → ⊥) ⊎ (c.loop-i.i ≤ 0) → 0 < c.loop-i.i → 0 < c.loop-i.value
     no_zero (inl both) h = let other = both.1 in omega arith

@@ -11,7 +11,8 @@ pub returns-then-is_empty : goal.returns-then-is_empty
 returns-then-is_empty c =
     pairs_end c.args.text.now (subst (λ (t : List ℕ). All (λ x. IsTrue (is_ascii_hexdigit x)) t) (sym (take_all (length c.args.text.now) c.args.text.now (omega arith))) (c.in_default.ensures))
     (λ is. elim c.then-is_empty.branch [
-      | then-is_empty-via-then-is_empty w ↦ (let none : length c.args.text.now ≡ 0 = eqb-true (length c.args.text.now) 0 (sym c.is_empty.ensures ∙ w.if-is_empty.true) in let some = is.some in omega arith)
+      | then-is_empty-via-then-is_empty w ↦ (let none : length c.args.text.now ≡ 0 = eqb-true (length c.args.text.now) 0
+          (sym c.is_empty.ensures ∙ w.if-is_empty.true) in let some = is.some in omega arith)
       | then-is_empty-via-else-is_empty+then-text-eq1 w ↦ (let odd = w.if-text-eq1.true in let even = is.even.1 in omega arith)
     ])
 

@@ -14,7 +14,8 @@ returns-then-i-eq-MAX_TURNS c =
     elim c.then-i-eq-MAX_TURNS.branch [
       | then-i-eq-MAX_TURNS-via-then-i-eq-MAX_TURNS w ↦ subst (λ (k : ℕ). Breaks IsTurns c.args.text.now k) (sym w.if-i-eq-MAX_TURNS.true)
           (turns_full c.args.text.now (omega arith) (subst (λ (k : ℕ). All (λ x. IsTrue (x == 70 || x == 82)) (take k c.args.text.now)) w.if-i-eq-MAX_TURNS.true c.loop-i.invariant.0))
-      | then-i-eq-MAX_TURNS-via-else-i-eq-MAX_TURNS+then-not-is_turn w ↦ turns_at c.args.text.now c.loop-i.i c.loop-i-test.true (let h = w.if-i-eq-MAX_TURNS.false in let h' = c.loop-i.invariant.1 in omega arith) c.loop-i.invariant.0
+      | then-i-eq-MAX_TURNS-via-else-i-eq-MAX_TURNS+then-not-is_turn w ↦ turns_at c.args.text.now c.loop-i.i c.loop-i-test.true
+          (let h = w.if-i-eq-MAX_TURNS.false in let h' = c.loop-i.invariant.1 in omega arith) c.loop-i.invariant.0
           (sym w.is_turn.ensures ∙ w.if-not-is_turn.true)
     ]
 

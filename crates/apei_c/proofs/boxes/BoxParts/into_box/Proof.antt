@@ -70,7 +70,8 @@ module _ (E : Bx) where
     abbrev Closes : Contract 𝓤
     Closes = triple_of 𝓛 (Callee.signature E.row E.al.row E.al.g E.al.d E.al.drops) (Callee.spec E.row E.al.row E.al.g E.al.d E.al.drops 𝓛 in_memory run)
 
-    walk : Triple 𝓤 (𝓣.C (callee_symbol.name (args E))) Closes → (z : (walk_of 𝓛 ended stays clauses).Ghost) → ent 𝓤 ((walk_of 𝓛 ended stays clauses).pre z) (WpFn 𝓤 H 𝓣.C 𝓣.Λ body (z.0.4.0 ++ []) ((walk_of 𝓛 ended stays clauses).post z))
+    walk : Triple 𝓤 (𝓣.C (callee_symbol.name (args E))) Closes → (z : (walk_of 𝓛 ended stays clauses).Ghost) → ent 𝓤 ((walk_of 𝓛 ended stays clauses).pre z)
+        (WpFn 𝓤 H 𝓣.C 𝓣.Λ body (z.0.4.0 ++ []) ((walk_of 𝓛 ended stays clauses).post z))
     walk known z =
         let κs = z.0.0 in
         let qs = z.0.1 in
@@ -85,18 +86,23 @@ module _ (E : Bx) where
         box_out E ! boxed z.0.4.0 (λ block offset handle at words handle_typed. fjoin ! $
         let held = word E handle block offset in
         let asked : Closes.Ghost = ((κs, qs, tt, (alloc, (block_ptr block offset, tt)), (handle ∷ [], (vptr block offset ∷ [], tt))), value) in
-        let have : List (Item 𝓤) = ‵ (box_owns (token E.al alloc) (R E) (block_ptr block offset) value) ∷ ‵ ((P E).own_val alloc (handle ∷ [])) ∷ ‵ ftrue ∷ lent ∷ (value_lives ⊛ alloc_lives ⊛ ‵ ftrue) ∷ [] in
+        let have : List (Item 𝓤) = ‵ (box_owns (token E.al alloc) (R E) (block_ptr block offset) value) ∷ ‵ ((P E).own_val alloc (handle ∷ [])) ∷ ‵ ftrue ∷ lent
+        ∷ (value_lives ⊛ alloc_lives ⊛ ‵ ftrue) ∷ [] in
         by ! (subst (λ (given : List Val). ent 𝓤 (⋆ 𝓛 have) (WpFn 𝓤 H 𝓣.C 𝓣.Λ body (given ++ []) Post)) (sym words)
         (qed 𝓛 have ∵ enter ! 𝓣.C 𝓣.Λ body (held ∷ []) _ $ alloc_all ! (λ locals. pass_all ! refl (box_typed E handle block offset handle_typed, tt) $
         sets ! (of_opd ! (get_in ! (fld ! refl (stop !)) (sub ! 0 refl (whole !)))) refl (tt, tt) $ sets ! (of_opd ! (get_in ! (fld ! refl (stop !)) (sub ! 1 refl (whole !)))) refl handle_typed $
         first ! $ blocks ! $ sets ! (of_opd ! (get ! refl)) refl handle_typed $
         -- what the call asks for: the lifetimes, the allocator and the pointer, and the memory
         move ! (4 ∷ []) $ split3 ! $ move ! (2 ∷ []) $ drop ! $ move ! (1 ∷ 2 ∷ []) $ join ! $ move ! (1 ∷ 0 ∷ []) $ join ! $
-        move ! (2 ∷ []) $ feq_i ! (List Val) (vptr block offset ∷ []) (vptr block offset ∷ []) refl $ fjoin ! $ move ! (2 ∷ 0 ∷ []) $ fjoin ! $ move ! (2 ∷ 0 ∷ []) $ join ! $ join ! $ use1 𝓛 (raw (Closes.pre asked)) (id⊢ 𝓤 _) $
+        move ! (2 ∷ []) $ feq_i ! (List Val) (vptr block offset ∷ []) (vptr block offset ∷ []) refl $ fjoin ! $ move ! (2 ∷ 0 ∷ []) $ fjoin ! $ move !
+        (2 ∷ 0 ∷ []) $ join ! $ join ! $ use1 𝓛 (raw (Closes.pre asked)) (id⊢ 𝓤 _) $
         calls_at_last ! (fm_of 𝓤 H 𝓛.laws 𝓣) Closes known asked (and_then ! (get ! refl) (and_then ! (get ! refl) (no_more !))) (λ answer.
-        use1 𝓛 (later (some (λ (closed : D E). (lent ⊛ ‵ ((B E).own_val closed (answer ∷ []))) ⊛ some (λ (_ : Unit {0} × (Unit {0} × Unit {0})). ‵ (fsep ftrue (fsep ftrue ftrue)) ⊛ (raw (fact 𝓤 (closed.value ≡ value)) ⊛ raw (fact 𝓤 (closed.alloc ≡ alloc))))))) (id⊢ 𝓤 _) $
+        use1 𝓛 (later (some (λ (closed : D E). (lent ⊛ ‵ ((B E).own_val closed (answer ∷ []))) ⊛ some
+        (λ (_ : Unit {0} × (Unit {0} × Unit {0})). ‵ (fsep ftrue (fsep ftrue ftrue)) ⊛
+        (raw (fact 𝓤 (closed.value ≡ value)) ⊛ raw (fact 𝓤 (closed.alloc ≡ alloc))))))) (id⊢ 𝓤 _) $
         await ! tt $ pick ! (λ closed. split ! $ move ! (1 ∷ []) $ pick ! (λ _. split3 ! $ drop ! $ heard ! (closed.value ≡ value) (λ same_value. drop ! $ split ! $ move ! (1 ∷ []) $
-        box_out E ! closed (answer ∷ []) (λ block' offset' handle' at' answer_is handle_typed'. box_in E ! closed block' offset' closed.value at' refl $ rewrite ! 0 (λ (given : List Val). ‵ ((B E).own_val closed given)) (sym answer_is) refl $
+        box_out E ! closed (answer ∷ []) (λ block' offset' handle' at' answer_is handle_typed'. box_in E ! closed block' offset' closed.value at' refl $ rewrite
+        ! 0 (λ (given : List Val). ‵ ((B E).own_val closed given)) (sym answer_is) refl $
         let typed : T (has_ty (box_ty E) answer) × WT answer = subst (λ (it : Val). T (has_ty (box_ty E) it) × WT it) (sym (ap only answer_is)) (box_typed E handle' block' offset' handle_typed') in
         lands_last ! refl typed $ exec ! 𝓣.C 𝓣.Λ (env body.locals locals) behind (at_ret (env body.locals locals) Post) $
         sets ! (of_opd ! (get ! refl)) refl typed $ returns ! (look_at ! 0 refl) $ free_all ! refl $

@@ -71,7 +71,8 @@ module _ (E : Bx) (droppable : Dict) where
     abbrev Opens : Contract 𝓤
     Opens = triple_of 𝓛 (Callee.signature E.row E.al.row E.al.g E.al.d E.al.drops droppable) (Callee.spec E.row E.al.row E.al.g E.al.d E.al.drops droppable 𝓛 in_memory run)
 
-    walk : Triple 𝓤 (𝓣.C (callee_symbol.name at_types)) Opens → (z : (walk_of 𝓛 ended stays clauses).Ghost) → ent 𝓤 ((walk_of 𝓛 ended stays clauses).pre z) (WpFn 𝓤 H 𝓣.C 𝓣.Λ body (z.0.4.0 ++ []) ((walk_of 𝓛 ended stays clauses).post z))
+    walk : Triple 𝓤 (𝓣.C (callee_symbol.name at_types)) Opens → (z : (walk_of 𝓛 ended stays clauses).Ghost) → ent 𝓤 ((walk_of 𝓛 ended stays clauses).pre z)
+        (WpFn 𝓤 H 𝓣.C 𝓣.Λ body (z.0.4.0 ++ []) ((walk_of 𝓛 ended stays clauses).post z))
     walk known z =
         let κs = z.0.0 in
         let qs = z.0.1 in
@@ -90,20 +91,26 @@ module _ (E : Bx) (droppable : Dict) where
         -- the call
         fjoin ! $ move ! (1 ∷ 0 ∷ []) $ join ! $ join ! $ use1 𝓛 (raw (Opens.pre asked)) (id⊢ 𝓤 _) $
         calls_at ! (fm_of 𝓤 H 𝓛.laws 𝓣) Opens known asked (and_then ! (get ! refl) (no_more !)) (λ answer.
-        use1 𝓛 (later (some (λ (pair : Ptr × E.al.row.Denot). (lent ⊛ ‵ ((Tuple (RawPtr ∷ P E ∷ [])).own_val pair (answer ∷ []))) ⊛ some (λ (_ : (Unit {0} × (Unit {0} × Unit {0})) × Unit {0}). ‵ (fsep (fsep ftrue (fsep ftrue ftrue)) ftrue) ⊛ (raw (fact 𝓤 (pair.1 ≡ boxed.alloc)) ⊛ ‵ (box_owns (token E.al boxed.alloc) (R E) pair.0 boxed.value)))))) (id⊢ 𝓤 _) $
+        use1 𝓛 (later (some (λ (pair : Ptr × E.al.row.Denot). (lent ⊛ ‵ ((Tuple (RawPtr ∷ P E ∷ [])).own_val pair (answer ∷ []))) ⊛ some
+        (λ (_ : (Unit {0} × (Unit {0} × Unit {0})) × Unit {0}). ‵ (fsep (fsep ftrue (fsep ftrue ftrue)) ftrue) ⊛
+        (raw (fact 𝓤 (pair.1 ≡ boxed.alloc)) ⊛ ‵ (box_owns (token E.al boxed.alloc) (R E) pair.0 boxed.value)))))) (id⊢ 𝓤 _) $
         await ! tt $ pick ! (λ pair. split ! $ move ! (1 ∷ []) $ pick ! (λ _. split3 ! $ drop ! $ heard ! (pair.1 ≡ boxed.alloc) (λ same_alloc.
         -- what it owns tells that the pointer is one of a block
         in_a_block ! pair.0 (λ at. box_owns (token E.al boxed.alloc) (R E) at boxed.value) (fst∗ 𝓤 (never 𝓤) (sem 𝓛 (token E.al boxed.alloc (bare (τ E)) null_ptr))) (λ block' offset' there.
-        move ! (1 ∷ []) $ split ! $ move ! (1 ∷ []) $ fpick ! (λ fields. fsplit ! $ feq_l ! (λ answer_is. fsplit ! $ feq_l ! (λ pointer_is. fsplit ! $ rewrite ! 0 (λ (alloc : E.al.row.Denot). ‵ (E.al.row.own_val alloc fields.1.0)) same_alloc refl $
+        move ! (1 ∷ []) $ split ! $ move ! (1 ∷ []) $ fpick !
+        (λ fields. fsplit ! $ feq_l ! (λ answer_is. fsplit ! $ feq_l !
+        (λ pointer_is. fsplit ! $ rewrite ! 0 (λ (alloc : E.al.row.Denot). ‵ (E.al.row.own_val alloc fields.1.0)) same_alloc refl $
         handle_tells E.al ! boxed.alloc fields.1.0 (λ handle' handle_is typed'.
         let whole' : D E = record { ptr = block_ptr block' offset'; alloc = boxed.alloc; value = boxed.value } in
         let made : Parts.Denot = record { ptr = block_ptr block' offset'; alloc = boxed.alloc; value = boxed.value } in
-        lands_as ! (ap only (answer_is ∙ (λ j. vstruct (of_list ((pointer_is ∙ ap (λ (at : Ptr). ptr_val at ∷ []) there) j ++ (handle_is j ++ []))) ∷ []))) refl (box_typed E handle' block' offset' typed') $
+        lands_as ! (ap only (answer_is ∙ (λ j. vstruct (of_list ((pointer_is ∙ ap (λ (at : Ptr). ptr_val at ∷ []) there) j ++ (handle_is j ++ []))) ∷ []))) refl
+        (box_typed E handle' block' offset' typed') $
         -- its two fields, and the parts of them
         sets ! (of_opd ! (get_in ! (fld ! refl (stop !)) (sub ! 0 refl (whole !)))) refl (tt, tt) $ sets ! (of_opd ! (get_in ! (fld ! refl (stop !)) (sub ! 1 refl (whole !)))) refl typed' $
         sets ! (of_opd ! (get ! refl)) refl typed' $
         sets ! (agg ! (and_then ! (get ! refl) (and_then ! (get ! refl) (no_more !)))) refl (box_typed E handle' block' offset' typed') $ returns ! (look_at ! 0 refl) $ free_all ! refl $
-        move ! (3 ∷ []) $ fsplit ! $ box_in E ! whole' block' offset' boxed.value refl refl $ use1 𝓛 (‵ (Parts.own_val made (word E handle' block' offset' ∷ []))) (id⊢ 𝓤 _) $ move ! (1 ∷ []) $ drop ! $
+        move ! (3 ∷ []) $ fsplit ! $ box_in E ! whole' block' offset' boxed.value refl refl $ use1 𝓛
+        (‵ (Parts.own_val made (word E handle' block' offset' ∷ []))) (id⊢ 𝓤 _) $ move ! (1 ∷ []) $ drop ! $
         suffices ! _ (ends_at 𝓛 ended stays clauses z (word E handle' block' offset') made ((tt, (tt, tt)), tt) (tt, tt)) $ says ! refl $
         nothing ! $ nothing ! $ fjoin ! $ join ! $ move ! (1 ∷ 0 ∷ []) $ join ! $ done !)))))))))))))
 
@@ -113,6 +120,8 @@ of_spec 𝓤 𝓛 𝓜 𝓡 wired X Z LX LZ g d drops droppable allocator md glu
     let E : Bx = record { row = X; laws = LX; al = record { row = Z; laws = LZ; g = g; d = d; drops = drops } } in
     let 𝓣 : Tables 𝓤 𝓛.H = tables_of 𝓤 𝓛.H 𝓜 (tables 𝓤 𝓛.H 𝓜 𝓡 𝓡.env) in
     let fn = body E droppable in
-    entered 𝓤 𝓛.H (triple_of 𝓛 (ended E droppable).signature (Of.spec X Z g d drops droppable 𝓛 𝓜.mem 𝓡.returns)) 𝓣.C 𝓣.Λ (#self (at_types E droppable)) fn (code.unfolded 𝓤 𝓛.H 𝓜 𝓡 wired (X, (Z, tt)) d drops droppable)
-    (walk_Meets 𝓛 (ended E droppable) (stays E droppable) (Goes-blank 𝓛 2 (plain (λ _. B E)) no (λ κs x f. tt), tt) (clauses E droppable 𝓛 𝓜.mem 𝓡.returns 𝓣) (WpFn 𝓤 𝓛.H 𝓣.C 𝓣.Λ fn) (WpFn-mono 𝓤 𝓛.H 𝓛.laws 𝓣 fn)
+    entered 𝓤 𝓛.H (triple_of 𝓛 (ended E droppable).signature (Of.spec X Z g d drops droppable 𝓛 𝓜.mem 𝓡.returns)) 𝓣.C 𝓣.Λ (#self (at_types E droppable)) fn
+    (code.unfolded 𝓤 𝓛.H 𝓜 𝓡 wired (X, (Z, tt)) d drops droppable)
+    (walk_Meets 𝓛 (ended E droppable) (stays E droppable) (Goes-blank 𝓛 2 (plain (λ _. B E)) no (λ κs x f. tt), tt) (clauses E droppable 𝓛 𝓜.mem 𝓡.returns 𝓣)
+    (WpFn 𝓤 𝓛.H 𝓣.C 𝓣.Λ fn) (WpFn-mono 𝓤 𝓛.H 𝓛.laws 𝓣 fn)
     (walk E droppable 𝓛 𝓜.mem 𝓡.returns 𝓣 (callee_met.met 𝓤 𝓛 𝓜 𝓡 (code.calls-std_alloc::boxed::Box::into_raw_with_allocator 𝓡.env wired) X Z LX LZ g d drops droppable allocator md glue)))

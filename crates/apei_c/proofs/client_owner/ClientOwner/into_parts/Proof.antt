@@ -42,7 +42,8 @@ module _ {M : Type 1} {𝓤 : Ura M} (𝓛 : Logic 𝓤) (in_memory : Memory →
   open 𝓛 use {H}
 
   walk : (z : (walk_of 𝓛 IntoParts.ended stays (IntoParts.clauses 𝓛 in_memory run)).Ghost)
-      → ent 𝓤 ((walk_of 𝓛 IntoParts.ended stays (IntoParts.clauses 𝓛 in_memory run)).pre z) (WpFn 𝓤 H 𝓣.C 𝓣.Λ code.function (z.0.4.0 ++ []) ((walk_of 𝓛 IntoParts.ended stays (IntoParts.clauses 𝓛 in_memory run)).post z))
+      → ent 𝓤 ((walk_of 𝓛 IntoParts.ended stays (IntoParts.clauses 𝓛 in_memory run)).pre z) (WpFn 𝓤 H 𝓣.C 𝓣.Λ code.function (z.0.4.0 ++ [])
+      ((walk_of 𝓛 IntoParts.ended stays (IntoParts.clauses 𝓛 in_memory run)).post z))
   walk z =
       let Post = (walk_of 𝓛 IntoParts.ended stays (IntoParts.clauses 𝓛 in_memory run)).post z in
       let owner = z.0.3.0 in
@@ -55,7 +56,8 @@ module _ {M : Type 1} {𝓤 : Ura M} (𝓛 : Logic 𝓤) (in_memory : Memory →
       split ! $ drop ! $ fsplit ! $
       rewrite ! 0 (λ (it : Option Session.the_row.Denot). ‵ ((ClientOwner.the_row).own_val (record { at = owner.at; alloc = owner.alloc; session = it }) z.0.4.0)) session_is refl $
       use1 𝓛 (‵ ((B Boxed).own_val boxed z.0.4.0)) (id⊢ 𝓤 _) $
-      box_out Boxed ! boxed z.0.4.0 (λ block offset handle at words handle_typed. box_in Boxed ! boxed block offset boxed.value at refl $ use1 𝓛 (‵ (Parts.own_val made (word Boxed handle block offset ∷ []))) (id⊢ 𝓤 _) $ move ! (1 ∷ []) $ drop ! $
+      box_out Boxed ! boxed z.0.4.0 (λ block offset handle at words handle_typed. box_in Boxed ! boxed block offset boxed.value at refl $ use1 𝓛
+      (‵ (Parts.own_val made (word Boxed handle block offset ∷ []))) (id⊢ 𝓤 _) $ move ! (1 ∷ []) $ drop ! $
       let word_is = word Boxed handle block offset in
       let have : List (Item 𝓤) = ‵ (Parts.own_val made (word_is ∷ [])) ∷ [] in
       by ! (subst (λ (given : List Val). ent 𝓤 (⋆ 𝓛 have) (WpFn 𝓤 H 𝓣.C 𝓣.Λ code.function (given ++ []) Post)) (sym words)
@@ -71,5 +73,6 @@ unfolding tables_of
 into_parts_spec 𝓤 𝓛 𝓜 𝓡 wired =
     let 𝓣 : Tables 𝓤 𝓛.H = tables_of 𝓤 𝓛.H 𝓜 (tables 𝓤 𝓛.H 𝓜 𝓡 𝓡.env) in
     entered 𝓤 𝓛.H (triple_of 𝓛 IntoParts.signature (IntoParts.spec 𝓛 𝓜.mem 𝓡.returns)) 𝓣.C 𝓣.Λ #self code.function (code.unfolded 𝓤 𝓛.H 𝓜 𝓡 wired)
-    (walk_Meets 𝓛 IntoParts.ended stays (Goes-dropped 𝓛 0 AsOwner yes (λ κs x f. refl), tt) (IntoParts.clauses 𝓛 𝓜.mem 𝓡.returns) (WpFn 𝓤 𝓛.H 𝓣.C 𝓣.Λ code.function) (WpFn-mono 𝓤 𝓛.H 𝓛.laws 𝓣 code.function)
+    (walk_Meets 𝓛 IntoParts.ended stays (Goes-dropped 𝓛 0 AsOwner yes (λ κs x f. refl), tt) (IntoParts.clauses 𝓛 𝓜.mem 𝓡.returns)
+    (WpFn 𝓤 𝓛.H 𝓣.C 𝓣.Λ code.function) (WpFn-mono 𝓤 𝓛.H 𝓛.laws 𝓣 code.function)
     (walk 𝓛 𝓜.mem 𝓡.returns 𝓣))

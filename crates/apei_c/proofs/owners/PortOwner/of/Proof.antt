@@ -45,7 +45,8 @@ module _ {M : Type 1} {𝓤 : Ura M} (𝓛 : Logic 𝓤) (in_memory : Memory →
       let Owner = type_at (Of.signature).result tt in
       let made : Owner.Denot = record { at = boxed.ptr; alloc = boxed.alloc; port = Some boxed.value } in
       qed 𝓛 ((‵ ftrue ⊛ ‵ (fsep ((B Boxed).own_val boxed z.0.4.0) ftrue)) ∷ raw (emp 𝓤) ∷ []) ∵ split ! $ drop ! $ fsplit ! $
-      box_out Boxed ! boxed z.0.4.0 (λ block offset handle at words handle_typed. box_in Boxed ! boxed block offset boxed.value at refl $ use1 𝓛 (‵ (Owner.own_val made (word Boxed handle block offset ∷ []))) (id⊢ 𝓤 _) $ move ! (1 ∷ 2 ∷ []) $ drop ! $ drop ! $
+      box_out Boxed ! boxed z.0.4.0 (λ block offset handle at words handle_typed. box_in Boxed ! boxed block offset boxed.value at refl $ use1 𝓛
+      (‵ (Owner.own_val made (word Boxed handle block offset ∷ []))) (id⊢ 𝓤 _) $ move ! (1 ∷ 2 ∷ []) $ drop ! $ drop ! $
       let held = word Boxed handle block offset in
       let have : List (Item 𝓤) = ‵ (Owner.own_val made (held ∷ [])) ∷ [] in
       by ! (subst (λ (given : List Val). ent 𝓤 (⋆ 𝓛 have) (WpFn 𝓤 H 𝓣.C 𝓣.Λ code.function (given ++ []) Post)) (sym words)

@@ -88,8 +88,10 @@ port_spec 𝓤 𝓛 𝓜 𝓡 wired =
     sets ! (of_opd ! (get ! refl)) refl (tt, tt) $
     move ! (1 ∷ 2 ∷ []) $ fjoin ! $ move ! (2 ∷ 3 ∷ 4 ∷ 1 ∷ 0 ∷ []) $ group ! 5 $
     use1 𝓛 (later (some (λ (γ' : GName). raw (Part 𝓛 Owner Port.the_row (with_port owner) (named 0) κ q rb ro b o γ (sem 𝓛 (Rest 𝓛 rb ro owner b o hv)) (back 𝓛 rb ro owner b o hv at_b) port γ'))))
-    (lends_Part 𝓛 Owner Port.the_row (with_port owner) (named 0) κ q rb ro b o γ (sem 𝓛 (Rest 𝓛 rb ro owner b o hv)) (back 𝓛 rb ro owner b o hv at_b) ((Owner).coded.code owner) ((Owner).coded.code owner) port) $ await ! tt $ pick ! (λ γ'.
+    (lends_Part 𝓛 Owner Port.the_row (with_port owner) (named 0) κ q rb ro b o γ (sem 𝓛 (Rest 𝓛 rb ro owner b o hv)) (back 𝓛 rb ro owner b o hv at_b)
+    ((Owner).coded.code owner) ((Owner).coded.code owner) port) $ await ! tt $ pick ! (λ γ'.
     returns ! (look_at ! 0 refl) $ free_all ! refl $ keep ! (0 ∷ []) $
-    use1 𝓛 (‵ ((MutRef (named 0) κ Port.the_row).own_val (record { ref_ptr = (b, o); ghost_name = γ'; now = port }) (vptr b o ∷ [])) ⊛ ‵ (flft κ q) ⊛ ‵ (follows Owner Port.the_row γ γ' (with_port owner))) (id⊢ 𝓤 _) $ split ! $ move ! (1 ∷ []) $ split ! $ move ! (2 ∷ []) $
+    use1 𝓛 (‵ ((MutRef (named 0) κ Port.the_row).own_val (record { ref_ptr = (b, o); ghost_name = γ'; now = port }) (vptr b o ∷ [])) ⊛ ‵ (flft κ q) ⊛ ‵
+    (follows Owner Port.the_row γ γ' (with_port owner))) (id⊢ 𝓤 _) $ split ! $ move ! (1 ∷ []) $ split ! $ move ! (2 ∷ []) $
     suffices ! _ (ends_at 𝓛 Lent.ended stays c y (vptr b o) (record { ref_ptr = (b, o); ghost_name = γ'; now = port }) (tt, tt) (tt, tt)) $
     nothing ! $ nothing ! $ fjoin ! $ join ! $ nothing ! $ move ! (2 ∷ 0 ∷ []) $ join ! $ join ! $ frame ! $ says ! port_is $ done !))))))

@@ -53,7 +53,8 @@ module _ {M : Type 1} {𝓤 : Ura M} (𝓛 : Logic 𝓤) (in_memory : Memory →
   open 𝓛 use {H}
 
   walk : (z : (walk_of 𝓛 Made.ended stays (Made.clauses 𝓛 in_memory run)).Ghost)
-      → ent 𝓤 ((walk_of 𝓛 Made.ended stays (Made.clauses 𝓛 in_memory run)).pre z) (WpFn 𝓤 H 𝓣.C 𝓣.Λ code.function (z.0.4.0 ++ (z.0.4.1.0 ++ [])) ((walk_of 𝓛 Made.ended stays (Made.clauses 𝓛 in_memory run)).post z))
+      → ent 𝓤 ((walk_of 𝓛 Made.ended stays (Made.clauses 𝓛 in_memory run)).pre z) (WpFn 𝓤 H 𝓣.C 𝓣.Λ code.function (z.0.4.0 ++ (z.0.4.1.0 ++ []))
+      ((walk_of 𝓛 Made.ended stays (Made.clauses 𝓛 in_memory run)).post z))
   walk z =
       let Post = (walk_of 𝓛 Made.ended stays (Made.clauses 𝓛 in_memory run)).post z in
       let at = z.0.3.0 in
@@ -69,11 +70,16 @@ module _ {M : Type 1} {𝓤 : Ura M} (𝓛 : Logic 𝓤) (in_memory : Memory →
       by ! (subst (λ (given : List Val). ent 𝓤 (⋆ 𝓛 have) (WpFn 𝓤 H 𝓣.C 𝓣.Λ code.function (given ++ (z.0.4.1.0 ++ [])) Post)) (sym pointer_is)
       (subst (λ (given : List Val). ent 𝓤 (⋆ 𝓛 have) (WpFn 𝓤 H 𝓣.C 𝓣.Λ code.function (pointer ∷ (given ++ [])) Post)) (sym handle_is)
       (qed 𝓛 have ∵ enter ! 𝓣.C 𝓣.Λ code.function (pointer ∷ handle ∷ []) _ $ alloc_all ! (λ locals. pass_all ! refl (pointer_typed.0, (handle_typed, tt)) $
-      sets ! (agg ! (and_then ! (get ! refl) (and_then ! (get ! refl) (no_more !)))) refl (both (has_ty ty_ptr pointer) (has_ty (α Boxed.al) handle) pointer_typed.0.0 handle_typed.0, (pointer_typed.0.1, (handle_typed.1, tt))) $ returns ! (look_at ! 0 refl) $ free_all ! refl $
+      sets ! (agg ! (and_then ! (get ! refl) (and_then ! (get ! refl) (no_more !)))) refl (
+        both (has_ty ty_ptr pointer) (has_ty (α Boxed.al) handle)
+            pointer_typed.0.0 handle_typed.0,
+        (pointer_typed.0.1, (handle_typed.1, tt)),
+      ) $ returns ! (look_at ! 0 refl) $ free_all ! refl $
       suffices ! _ (ends_at 𝓛 Made.ended stays (Made.clauses 𝓛 in_memory run) z word_is made (tt, (tt, tt)) (tt, (tt, tt))) $ says ! refl $
       -- the two fields are the owner's
       nothing ! $ move ! (1 ∷ 0 ∷ []) $ fjoin ! $ feq_i ! (List Val) (pointer ∷ []) (pointer ∷ []) refl $ fjoin ! $ feq_i ! (List Val) (word_is ∷ []) (word_is ∷ []) refl $ fjoin ! $
-      fpack ! (Valss (RawPtr ∷ P Boxed ∷ [])) (within (record { name = []; args = []; types = []; fields = RawPtr ∷ P Boxed ∷ [] }) (at, (alloc, tt)) (word_is ∷ [])) (pointer ∷ [], (handle ∷ [], tt)) $
+      fpack ! (Valss (RawPtr ∷ P Boxed ∷ [])) (within (record { name = []; args = []; types = []; fields = RawPtr ∷ P Boxed ∷ [] }) (at, (alloc, tt))
+      (word_is ∷ [])) (pointer ∷ [], (handle ∷ [], tt)) $
       nothing ! $ move ! (1 ∷ 0 ∷ []) $ fjoin ! $ use1 𝓛 (‵ (Owner.own_val made (word_is ∷ []))) (id⊢ 𝓤 _) $
       nothing ! $ nothing ! $ fjoin ! $ nothing ! $ fjoin ! $ join ! $ nothing ! $ join ! $ done !))))))
 
@@ -82,5 +88,9 @@ unfolding tables_of
 none_spec 𝓤 𝓛 𝓜 𝓡 wired =
     let 𝓣 : Tables 𝓤 𝓛.H = tables_of 𝓤 𝓛.H 𝓜 (tables 𝓤 𝓛.H 𝓜 𝓡 𝓡.env) in
     entered 𝓤 𝓛.H (triple_of 𝓛 Made.signature (Made.spec 𝓛 𝓜.mem 𝓡.returns)) 𝓣.C 𝓣.Λ #self code.function (code.unfolded 𝓤 𝓛.H 𝓜 𝓡 wired)
-    (walk_Meets 𝓛 Made.ended stays (Goes-dropped 𝓛 0 (plain (λ _. RawPtr)) yes (λ κs x f. refl), (Goes-dropped 𝓛 0 (plain (λ _. Heap.the_row)) yes (λ κs x f. refl), tt)) (Made.clauses 𝓛 𝓜.mem 𝓡.returns) (WpFn 𝓤 𝓛.H 𝓣.C 𝓣.Λ code.function) (WpFn-mono 𝓤 𝓛.H 𝓛.laws 𝓣 code.function)
+    (walk_Meets 𝓛 Made.ended stays (
+      Goes-dropped 𝓛 0 (plain (λ _. RawPtr)) yes (λ κs x f. refl),
+      (Goes-dropped 𝓛 0 (plain (λ _. Heap.the_row)) yes (λ κs x f. refl), tt),
+    ) (Made.clauses 𝓛 𝓜.mem 𝓡.returns) (WpFn 𝓤 𝓛.H 𝓣.C 𝓣.Λ code.function)
+    (WpFn-mono 𝓤 𝓛.H 𝓛.laws 𝓣 code.function)
     (walk 𝓛 𝓜.mem 𝓡.returns 𝓣))

@@ -50,7 +50,8 @@ module _ {M : Type 1} {𝓤 : Ura M} (𝓛 : Logic 𝓤) (rb ro : ℕ) (owner : 
   abbrev Rest : Fml
   Rest = fsep (fsep (token (Boxed).al owner.alloc (bare (τ Boxed)) (block_ptr b o)) (handle Boxed owner.alloc hv)) (cell_at full_share (Owner).mir (word Boxed hv b o ∷ []) rb ro)
 
-  back : owner.at ≡ block_ptr b o → (sources : SourcesState) → ent 𝓤 (sep 𝓤 (sem 𝓛 ((mem Sources.the_row).own_at sources b o)) (sem 𝓛 Rest)) (sem 𝓛 ((mem Owner).own_at (with_sources owner sources) rb ro))
+  back : owner.at ≡ block_ptr b o → (sources : SourcesState) → ent 𝓤 (sep 𝓤 (sem 𝓛 ((mem Sources.the_row).own_at sources b o)) (sem 𝓛 Rest))
+      (sem 𝓛 ((mem Owner).own_at (with_sources owner sources) rb ro))
   unfolding part_of
   back at_b sources =
       let boxed : D Boxed = record { ptr = owner.at; alloc = owner.alloc; value = sources } in
@@ -87,9 +88,12 @@ sources_spec 𝓤 𝓛 𝓜 𝓡 wired =
     exec ! 𝓣.C 𝓣.Λ (env code.Mir.locals l) (after 1 (code.function).body) (at_ret _ (W.post y)) $
     sets ! (of_opd ! (get ! refl)) refl (tt, tt) $
     move ! (1 ∷ 2 ∷ []) $ fjoin ! $ move ! (2 ∷ 3 ∷ 4 ∷ 1 ∷ 0 ∷ []) $ group ! 5 $
-    use1 𝓛 (later (some (λ (γ' : GName). raw (Part 𝓛 Owner Sources.the_row (with_sources owner) (named 0) κ q rb ro b o γ (sem 𝓛 (Rest 𝓛 rb ro owner b o hv)) (back 𝓛 rb ro owner b o hv at_b) sources γ'))))
-    (lends_Part 𝓛 Owner Sources.the_row (with_sources owner) (named 0) κ q rb ro b o γ (sem 𝓛 (Rest 𝓛 rb ro owner b o hv)) (back 𝓛 rb ro owner b o hv at_b) ((Owner).coded.code owner) ((Owner).coded.code owner) sources) $ await ! tt $ pick ! (λ γ'.
+    use1 𝓛 (later (some (λ (γ' : GName). raw (Part 𝓛 Owner Sources.the_row (with_sources owner) (named 0) κ q rb ro b o γ (sem 𝓛 (Rest 𝓛 rb ro owner b o hv))
+    (back 𝓛 rb ro owner b o hv at_b) sources γ'))))
+    (lends_Part 𝓛 Owner Sources.the_row (with_sources owner) (named 0) κ q rb ro b o γ (sem 𝓛 (Rest 𝓛 rb ro owner b o hv)) (back 𝓛 rb ro owner b o hv at_b)
+    ((Owner).coded.code owner) ((Owner).coded.code owner) sources) $ await ! tt $ pick ! (λ γ'.
     returns ! (look_at ! 0 refl) $ free_all ! refl $ keep ! (0 ∷ []) $
-    use1 𝓛 (‵ ((MutRef (named 0) κ Sources.the_row).own_val (record { ref_ptr = (b, o); ghost_name = γ'; now = sources }) (vptr b o ∷ [])) ⊛ ‵ (flft κ q) ⊛ ‵ (follows Owner Sources.the_row γ γ' (with_sources owner))) (id⊢ 𝓤 _) $ split ! $ move ! (1 ∷ []) $ split ! $ move ! (2 ∷ []) $
+    use1 𝓛 (‵ ((MutRef (named 0) κ Sources.the_row).own_val (record { ref_ptr = (b, o); ghost_name = γ'; now = sources }) (vptr b o ∷ [])) ⊛ ‵ (flft κ q) ⊛ ‵
+    (follows Owner Sources.the_row γ γ' (with_sources owner))) (id⊢ 𝓤 _) $ split ! $ move ! (1 ∷ []) $ split ! $ move ! (2 ∷ []) $
     suffices ! _ (ends_at 𝓛 Lent.ended stays c y (vptr b o) (record { ref_ptr = (b, o); ghost_name = γ'; now = sources }) (tt, tt) (tt, tt)) $
     nothing ! $ nothing ! $ fjoin ! $ join ! $ nothing ! $ move ! (2 ∷ 0 ∷ []) $ join ! $ join ! $ frame ! $ says ! sources_is $ done !))))))

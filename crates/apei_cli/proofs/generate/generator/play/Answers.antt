@@ -16,7 +16,8 @@ write-requires g c =
 
 pub returns-in-Write-clause-played : goal.returns-in-Write-clause-played
 returns-in-Write-clause-played g c =
-    rw c.in-Write.is (subst (λ (bytes : List ℕ). IsRefusedIf c.is_err.result g.F.Flash.tells (state_of c.args.player.now.session) (write (encode_lower bytes)) (state_of c.write.new.self.session)) c.sample_record-record.ensures
+    rw c.in-Write.is (subst (λ (bytes : List ℕ). IsRefusedIf c.is_err.result g.F.Flash.tells (state_of c.args.player.now.session) (write (encode_lower bytes))
+    (state_of c.write.new.self.session)) c.sample_record-record.ensures
     (record { words = _; played = c.write.ensures.played; refused_is = c.is_err.ensures.value ∙ write_refused _ c.write.result (changes_in (state_of c.write.new.self.session).machine) }))
 
 pub returns-in-Clear-clause-played : goal.returns-in-Clear-clause-played

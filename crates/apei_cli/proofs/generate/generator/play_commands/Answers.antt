@@ -18,7 +18,8 @@ loop-preserved g c =
     record {
       so_far =
           subst (λ (x : ℕ). SoFar g.F.Flash.tells (state_of c.args.player.now.session) c.args.seed (c.loop.counter + 1) (state_of c.play-refused.new.player.session) x c.count.new.self) (sym number)
-          (SoFar-next g.F.Flash.tells (state_of c.args.player.now.session) c.args.seed c.loop.counter (state_of c.loop.player.session) (state_of c.play-refused.new.player.session) c.loop.number c.loop.tally
+          (SoFar-next g.F.Flash.tells (state_of c.args.player.now.session) c.args.seed c.loop.counter (state_of c.loop.player.session)
+          (state_of c.play-refused.new.player.session) c.loop.number c.loop.tally
           c.count.new.self c.of-command.result c.play-refused.result c.loop.invariant.so_far
           (c.of-command.ensures ∙ ap (λ (x : ℕ). command_of (x / 2 ^ 33)) number) c.play-refused.ensures.played c.stands.ensures.counted c.count.ensures);
       listeners = c.play-refused.ensures.listeners ∙ c.loop.invariant.listeners;

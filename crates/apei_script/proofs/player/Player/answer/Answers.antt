@@ -12,5 +12,7 @@ pub returns-clause-answered : goal.returns-clause-answered
 returns-clause-answered g c =
     line_answered g.F.Flash.tells (state_of c.args.self.now.session) (line_of c.args.line.now) (state_of c.carry_out.new.self) c.carry_out.new.self.buffers.reply c.end_line.new.reply c.steps.result
     (λ words counts plays.
-    line_played g.F.Flash.tells (own_programs g.F.Flash.tells) counts (state_of c.args.self.now.session) (line_of c.args.line.now) (said_at (changes_in (state_of c.carry_out.new.self).machine) (words ∷ [])) [] [] (state_of c.carry_out.new.self) c.stands.ensures.machine c.requires.playable.valid plays)
+    line_played g.F.Flash.tells (own_programs g.F.Flash.tells) counts (state_of c.args.self.now.session) (line_of c.args.line.now)
+    (said_at (changes_in (state_of c.carry_out.new.self).machine) (words ∷ [])) [] [] (state_of c.carry_out.new.self) c.stands.ensures.machine
+    c.requires.playable.valid plays)
     c.in_ok-carry_out.ensures.made c.steps.ensures.value c.end_line.ensures

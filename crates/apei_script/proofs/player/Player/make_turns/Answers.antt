@@ -11,7 +11,9 @@ returns-else-is_on g c =
     let off = is_off c.args.self.now.session.bridge c.is_on.result c.is_on.ensures c.if-is_on.false in
     let then = other_machine c.args.self.now.session c.turns.new.session c.turns.ensures.clients c.turns.ensures.bridge in
     record {
-      played = on_ok_weaker c.turns.result (λ h. occurred_played _ _ _ (state_of c.args.self.now.session) (state_of c.turns.new.session) _ _ (turns c.args.letters.now) _ _ refl off then h) c.turns.ensures.occurred;
-      unwritten = on_err_weaker c.turns.result (λ h. occurred_unwritten _ _ _ (state_of c.args.self.now.session) (state_of c.turns.new.session) _ _ (turns c.args.letters.now) _ _ refl off then h) c.turns.ensures.unwritten;
+      played = on_ok_weaker c.turns.result (λ h. occurred_played _ _ _ (state_of c.args.self.now.session) (state_of c.turns.new.session) _ _
+          (turns c.args.letters.now) _ _ refl off then h) c.turns.ensures.occurred;
+      unwritten = on_err_weaker c.turns.result (λ h. occurred_unwritten _ _ _ (state_of c.args.self.now.session) (state_of c.turns.new.session) _ _
+          (turns c.args.letters.now) _ _ refl off then h) c.turns.ensures.unwritten;
       cause = c.turns.ensures.cause;
     }

@@ -16,7 +16,8 @@ returns-clause-made g c =
     let table_is = c.in-Ok.ensures.table in
     by_shadow_table g.F.Flash.tells c.args.self.now.machine c.args.self.now.own c.args.self.now.steps c.args.self.now.bridge c.args.self.now.other c.len-entries.result c.in-Ok-attach.client _ _
     (c.len-entries.ensures ∙ c.in-Ok.ensures.erst.counted ∙ ap (λ (erst : Erst). erst.count) table_is)
-    (is_given g.F.Flash.tells (attaching_finds_shadow_client g.F.Flash.tells) _ _ _ _ _ _ c.stands.ensures.machine (table_is ∙ ap (λ (n : ℕ). shadow_erst (pieces_of n)) c.reach.ensures.value) c.new.ensures
+    (is_given g.F.Flash.tells (attaching_finds_shadow_client g.F.Flash.tells) _ _ _ _ _ _ c.stands.ensures.machine
+    (table_is ∙ ap (λ (n : ℕ). shadow_erst (pieces_of n)) c.reach.ensures.value) c.new.ensures
     c.in-Ok-attach.ensures.attaches c.in-Ok-attach.ensures.reaches)
     c.put_number.ensures
 

@@ -54,7 +54,8 @@ returns-in_err-second-in-None-clause-reader c =
 pub returns-in_err-second-in-None-clause-answer : goal.returns-in_err-second-in-None-clause-answer
 returns-in_err-second-in-None-clause-answer c =
     let p = err_from_is_err_and c.from_residual-in_err-second-in-None.result c.from_residual-in_err-second-in-None.ensures.1 in
-    p.1 ∙ ap (λ (e : FrameError). Err e) p.2 ∙ ap (λ (x : Reader × Result Fed FrameError). x.1) (second_failed (goal.at.returns-in_err-second-in-None-clause-answer c).After-from_residual-in_err-second-in-None)
+    p.1 ∙ ap (λ (e : FrameError). Err e) p.2 ∙ ap (λ (x : Reader × Result Fed FrameError). x.1)
+    (second_failed (goal.at.returns-in_err-second-in-None-clause-answer c).After-from_residual-in_err-second-in-None)
 
 pub returns-in_err-first-in-None-clause-reader : goal.returns-in_err-first-in-None-clause-reader
 returns-in_err-first-in-None-clause-reader c =

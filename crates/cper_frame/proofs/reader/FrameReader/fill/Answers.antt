@@ -22,7 +22,8 @@ invariant_of-self c =
     let less = c.if-self-gt0.true in
     let size : length (take c.min-count.result c.args.piece.now) ≡ c.min-count.result = length-take c.min-count.result c.args.piece.now ∙ omega arith in
     subst (λ (xs : List ℕ). IsReader c.self.inside.limit xs (vec_capacity c.add.new.held) (c.self.inside.missing - c.min-count.result)) (sym c.add.ensures.items)
-    (grown c.self.inside.limit c.self.inside.held.items (take c.min-count.result c.args.piece.now) (vec_capacity c.self.inside.held) (vec_capacity c.add.new.held) c.self.inside.missing c.min-count.result
+    (grown c.self.inside.limit c.self.inside.held.items (take c.min-count.result c.args.piece.now) (vec_capacity c.self.inside.held)
+    (vec_capacity c.add.new.held) c.self.inside.missing c.min-count.result
     c.self.invariant size (omega arith) c.add.ensures.room)
 
 sound : (c : goal.Then-self-gt0) → c.self.inside.failed ≡ None
@@ -55,15 +56,18 @@ invariant_of-self-in-Ok c =
     let ok : checked c.self.inside.limit (c.self.inside.held.items ++ take c.min-count.result c.args.piece.now) ≡ Ok c.in-Ok.field-0 =
     ap (checked c.self.inside.limit) (sym (c.as_slice.ensures.value ∙ c.add.ensures.items)) ∙ sym c.checked_length.ensures ∙ c.in-Ok.is in
     subst (λ (xs : List ℕ). IsReader c.self.inside.limit xs (vec_capacity c.add.new.held) (c.self.inside.missing - c.min-count.result)) (sym c.add.ensures.items)
-    (grown_whole c.self.inside.limit c.self.inside.held.items (take c.min-count.result c.args.piece.now) (vec_capacity c.self.inside.held) (vec_capacity c.add.new.held) c.self.inside.missing c.min-count.result c.in-Ok.field-0
+    (grown_whole c.self.inside.limit c.self.inside.held.items (take c.min-count.result c.args.piece.now) (vec_capacity c.self.inside.held)
+    (vec_capacity c.add.new.held) c.self.inside.missing c.min-count.result c.in-Ok.field-0
     c.self.invariant size (omega arith) (omega arith) (omega arith) c.add.ensures.room ok)
 
 pub invariant_of-self-in-Err-Need : goal.invariant_of-self-in-Err-Need
 invariant_of-self-in-Err-Need c =
     let need : checked c.self.inside.limit (c.self.inside.held.items ++ take c.min-count.result c.args.piece.now) ≡ Err (Need c.in-Err-Need.more) =
-    ap (checked c.self.inside.limit) (sym (c.as_slice.ensures.value ∙ c.add.ensures.items)) ∙ sym c.checked_length.ensures ∙ c.in-Err-Need.is ∙ ap (λ (e : FrameError). Err e) c.in-Err-Need.field-0-is in
+    ap (checked c.self.inside.limit) (sym (c.as_slice.ensures.value ∙ c.add.ensures.items)) ∙ sym c.checked_length.ensures ∙ c.in-Err-Need.is
+    ∙ ap (λ (e : FrameError). Err e) c.in-Err-Need.field-0-is in
     subst (λ (xs : List ℕ). IsReader c.self.inside.limit xs (vec_capacity c.add.new.held) c.in-Err-Need.more) (sym c.add.ensures.items)
-    (grown_needs c.self.inside.limit c.self.inside.held.items (take c.min-count.result c.args.piece.now) (vec_capacity c.self.inside.held) (vec_capacity c.add.new.held) c.self.inside.missing c.in-Err-Need.more
+    (grown_needs c.self.inside.limit c.self.inside.held.items (take c.min-count.result c.args.piece.now) (vec_capacity c.self.inside.held)
+    (vec_capacity c.add.new.held) c.self.inside.missing c.in-Err-Need.more
     c.self.invariant c.add.ensures.room need)
 
 pub invariant_of-self-in-Err : goal.invariant_of-self-in-Err

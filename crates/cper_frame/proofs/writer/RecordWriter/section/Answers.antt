@@ -14,7 +14,8 @@ returns-clause-written c = λ before head_of given is.
     let end_is : c.write_bytes.result ≡ c.args.self.now.end + length c.args.body.now = c.write_bytes.ensures.end in
     let put : PutSection c.args.self.now.out.now c.put_descriptor.new.out c.write_bytes.new.out (length given) c.args.self.now.end c.args.head.now c.args.body.now = record {
       head_fits = c.put_descriptor.ensures.fits;
-      descriptor_put = subst (λ (k : ℕ). Wrote c.args.self.now.out.now c.put_descriptor.new.out (128 + 72 * k) (128 + 72 * k + 72) (joined (descriptor_fields c.args.head.now c.args.self.now.end (length c.args.body.now)))) done c.put_descriptor.ensures.wrote;
+      descriptor_put = subst (λ (k : ℕ). Wrote c.args.self.now.out.now c.put_descriptor.new.out (128 + 72 * k) (128 + 72 * k + 72)
+          (joined (descriptor_fields c.args.head.now c.args.self.now.end (length c.args.body.now)))) done c.put_descriptor.ensures.wrote;
       body_put = subst (λ (k : ℕ). Wrote c.put_descriptor.new.out c.write_bytes.new.out c.args.self.now.end k c.args.body.now) end_is c.write_bytes.ensures.wrote;
     } in
     record {

@@ -19,7 +19,8 @@ returns-in_default g c =
     let asker = asker_of c.args.client.now c.args.budget.now in
     let bridges = as_seen rules asker c.args.station.now
     before c.args.self.now (Line event) (after_reader event inside.id last before)
-    (state_of c.turn_reader-event.new.stage inside.id (take c.turn_reader-event.new.size (with_items inside.bytes c.turn_reader-event.new.bytes).items)) c.args.budget.now c.turn_reader-event.new.station
+    (state_of c.turn_reader-event.new.stage inside.id (take c.turn_reader-event.new.size (with_items inside.bytes c.turn_reader-event.new.bytes).items))
+    c.args.budget.now c.turn_reader-event.new.station
     c.self.view_is
     (ap (λ (xs : List ℕ). after_reader event inside.id last (state_of inside.stage inside.id (take inside.size xs))) (sym c.deref_mut.ensures.value) ∙ sym c.turn_reader-event.ensures.state
     ∙ ap (λ (xs : List ℕ). state_of c.turn_reader-event.new.stage inside.id (take c.turn_reader-event.new.size xs)) (sym kept))

@@ -11,7 +11,8 @@ use Rattle.erst_device.proofs.device.Device.action.Goals as goal
 pub returns-in-Some-clause-effect : goal.returns-in-Some-clause-effect
 returns-in-Some-clause-effect g c =
     subst (λ (s : DeviceState). Effect g.F.Flash.tells s c.args.range.now (action_of c.args.code) (seen c.act.new.self c.act.new.store)) c.self.view_is
-    (subst (λ (o : Option Action). Effect g.F.Flash.tells (seen c.self.inside.registers c.self.inside.store) c.args.range.now o (seen c.act.new.self c.act.new.store)) (c.in-Some.ensures ∙ ap action_of c.from.ensures)
+    (subst (λ (o : Option Action). Effect g.F.Flash.tells (seen c.self.inside.registers c.self.inside.store) c.args.range.now o
+    (seen c.act.new.self c.act.new.store)) (c.in-Some.ensures ∙ ap action_of c.from.ensures)
     (effect_of _ _ _ _ _ _ c.act.ensures.does))
 
 pub returns-in_default-clause-acts : goal.returns-in_default-clause-acts

@@ -13,7 +13,8 @@ returns-in_err-least-clause-starts g c = λ range long. let e = c.in_err-least.e
 
 pub returns-in_default-clause-starts : goal.returns-in_default-clause-starts
 returns-in_default-clause-starts g c = λ range long. let e = c.in_ok-least.ensures in
-    finds_nothing g.F.Flash.tells (seen c.args.self.now c.args.store.now) range c.first.new.self c.in_ok-least.field-0 c.requires.operation (record { answer = e.answer; error = e.error; still = e.still; reads = e.reads; leaves = e.leaves }) c.in_default.is
+    finds_nothing g.F.Flash.tells (seen c.args.self.now c.args.store.now) range c.first.new.self c.in_ok-least.field-0 c.requires.operation
+    (record { answer = e.answer; error = e.error; still = e.still; reads = e.reads; leaves = e.leaves }) c.in_default.is
 
 pub returns-in_default-find_record-clause-starts : goal.returns-in_default-find_record-clause-starts
 returns-in_default-find_record-clause-starts g c = λ range long. let e = c.in_ok-least.ensures in

@@ -16,7 +16,8 @@ pub returns-then-not-are_alike-clause-refused : goal.returns-then-not-are_alike-
 returns-then-not-are_alike-clause-refused c =
     let some : c.args.self.now.origin ≢ 0 = λ none. c.if-self-eq0.false (ap (λ (p : PortState). p.origin) c.self.view_is ∙ none) in
     Divided c.in-Ok.geometry some c.in-Ok.ensures
-    (λ same. absurd (let no : false ≡ true = c.if-not-are_alike.ensures.1 (divides_alike c.in-Ok.geometry (layout_of c.geometry-2.result) c.args.self.now.device.store.layout c.geometry-2.ensures same) in cc))
+    (λ same. absurd (let no : false ≡ true = c.if-not-are_alike.ensures.1 (divides_alike c.in-Ok.geometry (layout_of c.geometry-2.result)
+    c.args.self.now.device.store.layout c.geometry-2.ensures same) in cc))
 
 pub returns-clause-its : goal.returns-clause-its
 returns-clause-its c = record {

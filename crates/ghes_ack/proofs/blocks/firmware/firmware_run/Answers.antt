@@ -50,7 +50,8 @@ returns-then-at-len-clause-runs c =
     let k = c.min-count.ensures in
     let some = c.requires.some in
     writes_run _ _ _ _ _ _ _ _ c.in-Writes.is
-    (fills_at c.min-count.result c.args.blocks.now c.next.new.self c.in-Some.block c.deref.result.now c.args.ram.now c.fill_more.new.ram c.note-then-at-len.new.events (drop c.min-count.result c.args.events.now) c.in-Some.ensures c.deref.ensures.value
+    (fills_at c.min-count.result c.args.blocks.now c.next.new.self c.in-Some.block c.deref.result.now c.args.ram.now c.fill_more.new.ram
+    c.note-then-at-len.new.events (drop c.min-count.result c.args.events.now) c.in-Some.ensures c.deref.ensures.value
     (omega (arith, n, first, more, l, d, k, some)) (omega (arith, n, first, more, l, d, k, some)) c.fill_more.ensures c.note-then-at-len.ensures)
 
 pub publish-wait-requires-clause-head : goal.publish-wait-requires-clause-head
@@ -64,5 +65,6 @@ returns-else-at-len-clause-runs c =
     let n : length c.in-Some.block.items ≡ vec_len c.in-Some.block = ap length (sym c.deref-in-Writes.ensures.value) ∙ c.deref-in-Writes.ensures.len in
     let none = c.if-at-len.false in
     writes_run _ _ _ _ _ _ _ _ c.in-Writes.is
-    (publishes_at c.args.blocks.now c.next.new.self c.in-Some.block c.deref-in-Writes.result.now c.args.ram.now c.publish-wait.new.ram c.note-in-Writes.new.events (drop 1 c.args.events.now) c.in-Some.ensures c.deref-in-Writes.ensures.value (omega (arith, n, none, l))
+    (publishes_at c.args.blocks.now c.next.new.self c.in-Some.block c.deref-in-Writes.result.now c.args.ram.now c.publish-wait.new.ram
+    c.note-in-Writes.new.events (drop 1 c.args.events.now) c.in-Some.ensures c.deref-in-Writes.ensures.value (omega (arith, n, none, l))
     c.publish-wait.ensures.memory c.publish-wait.ensures.clear c.note-in-Writes.ensures)

@@ -4,7 +4,8 @@ use Rattle.ghes_ack.specs.declared.events.Event.{Event}
 use Rattle.ghes_ack.specs.declared.events.Event.TheVariants.{Copied, Took}
 use Rattle.ghes_ack.proofs.blocks.reader.note_taken.Goals as goal
 
-taken : (events filled rest : List Event) (n : ℕ) → 0 < n → n ≤ length events → filled ≡ replicate (length (take n events)) Copied → slice_set (filled ++ rest) (n - 1) Took ≡ replicate (n - 1) Copied ++ Took ∷ rest
+taken : (events filled rest : List Event) (n : ℕ) → 0 < n → n ≤ length events → filled ≡ replicate (length (take n events)) Copied →
+    slice_set (filled ++ rest) (n - 1) Took ≡ replicate (n - 1) Copied ++ Took ∷ rest
 taken events filled rest n some few is =
     let l = length-take n events in
     let e : length (take n events) ≡ n - 1 + 1 = omega (arith, l, few, some) in

@@ -5,4 +5,5 @@ use Rattle.ghes_ack.proofs.ends.MayRead.copy_piece.Goals as goal
 
 pub returns : goal.returns
 returns g c =
-    piece_is c.args.bytes.now c.copy.new.out (block_bytes (g.M.HasWindow.window_of c.args.map.now) c.args.ram.now) (64 * c.args.piece) 64 c.min-end.result _ c.min-end.ensures c.requires.begins refl c.copy.auto.out c.copy.ensures
+    piece_is c.args.bytes.now c.copy.new.out (block_bytes (g.M.HasWindow.window_of c.args.map.now) c.args.ram.now) (64 * c.args.piece) 64 c.min-end.result _
+    c.min-end.ensures c.requires.begins refl c.copy.auto.out c.copy.ensures

@@ -11,7 +11,8 @@ returns g c =
     let block = c.args.block.now in
     let at = g.M.HasWindow.window_of c.args.map.now in
     let head = c.requires.head in
-    let front : spelled 4 c.get_u32.result ≡ take 4 block = ap (spelled 4) c.get_u32.ensures ∙ spelled-number_at block 0 4 (AreBytes-each block (λ k. omega (arith, c.type_inv.block k))) (omega (arith, head)) ∙ part-front block 4 in
+    let front : spelled 4 c.get_u32.result ≡ take 4 block = ap (spelled 4) c.get_u32.ensures ∙ spelled-number_at block 0 4
+    (AreBytes-each block (λ k. omega (arith, c.type_inv.block k))) (omega (arith, head)) ∙ part-front block 4 in
     let window = c.window.ensures.window in
     let shown = c.show.ensures in
     let seen : c.show.new.ram ≡ with_block at c.args.ram.now (with_status (block_bytes at c.args.ram.now) (spelled 4 c.get_u32.result)) = cc in

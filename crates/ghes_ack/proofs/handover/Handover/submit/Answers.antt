@@ -23,5 +23,6 @@ returns-clause-stands c =
     let same : c.self.inside.blocks.map.len ≡ c.args.self.now.map.len = ap (λ (at : HandoverMap). at.len) (ap (λ (h : HandoverState). h.map) c.self.view_is) in
     let good : Fits c.args.self.now.map.len c.args.block.now = subst (λ (n : ℕ). Fits n c.args.block.now) same c.in_default.ensures.fits in
     let next : view_of c.self.inside.ends c.add.new.self ≡ record c.args.self.now { waiting = c.args.self.now.waiting ++ c.args.block.now ∷ [] } =
-    added c.self.inside.ends c.self.inside.blocks c.add.new.self c.args.block.now c.add.ensures ∙ ap (λ (h : HandoverState). record h { waiting = h.waiting ++ c.args.block.now ∷ [] }) c.self.view_is in
+    added c.self.inside.ends c.self.inside.blocks c.add.new.self c.args.block.now c.add.ensures
+    ∙ ap (λ (h : HandoverState). record h { waiting = h.waiting ++ c.args.block.now ∷ [] }) c.self.view_is in
     λ ram m st. subst (λ (h : HandoverState). StandsFor h ram (submitted m c.args.block.now)) (sym next) (submits c.args.self.now ram m c.args.block.now good st)

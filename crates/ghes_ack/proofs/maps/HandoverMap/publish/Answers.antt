@@ -21,8 +21,13 @@ returns g c =
       order = (
         c.read.ensures.allowed,
         (
-          subst (λ (v : ℕ). g.S.Space.allows (g.S.Space.state c.read.new.self) (Write c.args.self.now.ack.place c.args.self.now.ack.access v c.write.result) (g.S.Space.state c.write.new.self)) value c.write.ensures,
-          (subst (λ (v : ℕ). g.S.Space.allows (g.S.Space.state c.write.new.self) (Write (Memory c.args.self.now.block) B32 v c.write-2.result) (g.S.Space.state c.write-2.new.self)) word c.write-2.ensures, refl),
+          subst (λ (v : ℕ). g.S.Space.allows (g.S.Space.state c.read.new.self) (Write c.args.self.now.ack.place c.args.self.now.ack.access v c.write.result)
+              (g.S.Space.state c.write.new.self)) value c.write.ensures,
+          (
+            subst (λ (v : ℕ). g.S.Space.allows (g.S.Space.state c.write.new.self) (Write (Memory c.args.self.now.block) B32 v c.write-2.result)
+                (g.S.Space.state c.write-2.new.self)) word c.write-2.ensures,
+            refl,
+          ),
         ),
       );
     }

@@ -14,7 +14,10 @@ filled at ram new block piece end not_0 more is_end is =
     filled_behind at ram new block (take (end - 64 * piece) (drop (64 * piece) block)) piece (grind arith) more (ap (λ (e : ℕ). take (e - 64 * piece) (drop (64 * piece) block)) is_end) is
 
 pub returns-then-piece-eq0 : goal.returns-then-piece-eq0
-returns-then-piece-eq0 c = c.write_first.ensures ∙ ap (λ (k : ℕ). with_block c.args.self.now c.args.ram.now (with_piece (block_bytes c.args.self.now c.args.ram.now) c.args.block.now k)) (sym c.if-piece-eq0.true)
+returns-then-piece-eq0 c = c.write_first.ensures
+    ∙ ap (λ (k : ℕ). with_block c.args.self.now c.args.ram.now (with_piece (block_bytes c.args.self.now c.args.ram.now) c.args.block.now k))
+    (sym c.if-piece-eq0.true)
 
 pub returns-else-piece-eq0 : goal.returns-else-piece-eq0
-returns-else-piece-eq0 c = filled c.args.self.now c.args.ram.now c.write_part.new.ram c.args.block.now c.args.piece c.min-end.result c.if-piece-eq0.false c.requires.begins c.min-end.ensures c.write_part.ensures
+returns-else-piece-eq0 c = filled c.args.self.now c.args.ram.now c.write_part.new.ram c.args.block.now c.args.piece c.min-end.result c.if-piece-eq0.false
+    c.requires.begins c.min-end.ensures c.write_part.ensures

@@ -22,7 +22,8 @@ loop-block-preserved g c =
         stack = let q = room.stack in let e = c.push_reserved-in-Some-pop_front.ensures.capacity in omega (arith, q, e);
         waiting_room = rw c.pop_front.ensures.rest (All-drop (IsWide (g.M.HasWindow.window_of c.loop-block.self.map).len) 1 c.loop-block.self.waiting.items room.waiting_room);
         work_room = room.work_room;
-        spare_room = rw c.push_reserved-in-Some-pop_front.ensures.items (All-more (IsWide (g.M.HasWindow.window_of c.loop-block.self.map).len) c.loop-block.self.spare.items c.in-Some-pop_front.block room.spare_room
+        spare_room = rw c.push_reserved-in-Some-pop_front.ensures.items (All-more (IsWide (g.M.HasWindow.window_of c.loop-block.self.map).len)
+            c.loop-block.self.spare.items c.in-Some-pop_front.block room.spare_room
             (rw c.in-Some-pop_front.ensures.lookup (room.waiting_room 0 c.in-Some-pop_front.block (omega (arith, counted, popped)))));
         last_room = room.last_room;
       },

@@ -5,15 +5,18 @@ use Rattle.ghes_block.proofs.block.Block.decode.Goals as goal
 
 pub slice_bounds-block-end : goal.slice_bounds-block-end
 slice_bounds-block-end c =
-    sym (front c.args.bytes.now c.in_ok-length.length c.in_ok-length.entries (AreBytes-each c.args.bytes.now (λ k. omega (arith, c.type_inv.bytes k))) c.in_ok-length.ensures.0 c.in_ok-length.ensures.1).size
+    sym (front c.args.bytes.now c.in_ok-length.length c.in_ok-length.entries (AreBytes-each c.args.bytes.now (λ k. omega (arith, c.type_inv.bytes k)))
+    c.in_ok-length.ensures.0 c.in_ok-length.ensures.1).size
 
 pub invariant_of-block : goal.invariant_of-block
 invariant_of-block c =
-    (front c.args.bytes.now c.in_ok-length.length c.in_ok-length.entries (AreBytes-each c.args.bytes.now (λ k. omega (arith, c.type_inv.bytes k))) c.in_ok-length.ensures.0 c.in_ok-length.ensures.1).whole
+    (front c.args.bytes.now c.in_ok-length.length c.in_ok-length.entries (AreBytes-each c.args.bytes.now (λ k. omega (arith, c.type_inv.bytes k)))
+    c.in_ok-length.ensures.0 c.in_ok-length.ensures.1).whole
 
 pub returns-clause-found : goal.returns-clause-found
 returns-clause-found c =
-    let f = front c.args.bytes.now c.in_ok-length.length c.in_ok-length.entries (AreBytes-each c.args.bytes.now (λ k. omega (arith, c.type_inv.bytes k))) c.in_ok-length.ensures.0 c.in_ok-length.ensures.1 in
+    let f = front c.args.bytes.now c.in_ok-length.length c.in_ok-length.entries (AreBytes-each c.args.bytes.now (λ k. omega (arith, c.type_inv.bytes k)))
+    c.in_ok-length.ensures.0 c.in_ok-length.ensures.1 in
     (f.within, whole_block (take c.in_ok-length.length c.args.bytes.now) f.whole.are_bytes f.whole.whole)
 
 pub returns-clause-only : goal.returns-clause-only

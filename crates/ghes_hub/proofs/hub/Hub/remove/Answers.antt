@@ -15,7 +15,8 @@ invariant_of-self g c =
     let x = c.index_mut.result.now in
     let there : c.args.at < length (members_of x) = if_map members_of xs c.args.source x (λ members. c.args.at < length members) here c.index_mut.ensures.value c.requires.at in
     let short : length (members_of c.remove.new.self) ≤ length (members_of x) = (let l = removed_long (members_of x) c.args.at there in let e = ap length c.remove.ensures in omega (arith, l, e)) in
-    let le : length (members_of c.remove.new.self) ≤ length (members_of (get_or xs c.args.source x)) = subst (λ y. length (members_of c.remove.new.self) ≤ length (members_of y)) c.index_mut.ensures.value short in
+    let le : length (members_of c.remove.new.self) ≤ length (members_of (get_or xs c.args.source x)) =
+    subst (λ y. length (members_of c.remove.new.self) ≤ length (members_of y)) c.index_mut.ensures.value short in
     let room = old.room in
     let less = no_longer members_of xs c.args.source c.remove.new.self x here le in
     record {

@@ -42,5 +42,6 @@ returns-clause-opened c =
     let some = c.if-found-eq0.false in
     let most = c.if-found-gt16.false in
     let count = c.count-found.ensures in
-    is_ready c.args.sources.now c.in_ok-ram.ram c.in_ok-begin.field-0.ram c.in_ok-begin.field-0.list c.deref-3.result.now (c.deref-3.ensures.value ∙ plan.planned) plan.exact (omega (arith, some, count)) (omega (arith, most, count))
+    is_ready c.args.sources.now c.in_ok-ram.ram c.in_ok-begin.field-0.ram c.in_ok-begin.field-0.list c.deref-3.result.now
+    (c.deref-3.ensures.value ∙ plan.planned) plan.exact (omega (arith, some, count)) (omega (arith, most, count))
     (blank_is c.in_ok-ram.ram c.deref-2.result.now c.in_ok-ram.ensures) (laid_out gens c.in_ok-ram.ram plan.exact covers) c.in_ok-begin.ensures.0 c.in_ok-begin.ensures.1

@@ -29,4 +29,5 @@ returns-clause-makes c =
     let n : length c.in-Some.block.items ≡ vec_len c.in-Some.block = ap length (sym c.deref-2.ensures.value) ∙ c.deref-2.ensures.len in
     let l = c.len.ensures in
     let none = c.if-blocks-len.false in
-    publishes_hand c.args.blocks.now c.next.new.self c.in-Some.block c.deref-2.result.now c.args.ram.now c.show-wait.new.ram c.in-Some.ensures c.deref-2.ensures.value (omega (arith, n, l, none)) c.show-wait.ensures
+    publishes_hand c.args.blocks.now c.next.new.self c.in-Some.block c.deref-2.result.now c.args.ram.now c.show-wait.new.ram c.in-Some.ensures
+    c.deref-2.ensures.value (omega (arith, n, l, none)) c.show-wait.ensures

@@ -20,7 +20,8 @@ loop-layout-preserved c =
       omega (arith, pushed, len, longer),
       c.push_reserved.ensures.capacity ∙ inv.1,
       subst (λ (xs : List Source). AreBegun layouts c.args.ram c.new.new.ram xs) (sym c.push_reserved.ensures.items)
-          (one_begun layouts c.args.ram c.loop-layout.ram c.new.new.ram list layout c.in-Ok.handover c.requires here c.in-Ok.ensures.stands c.in-Ok.ensures.layout (ap layout_kind c.in-Ok.ensures.layout) c.in-Ok.ensures.windows c.new.ensures.elsewhere inv.2),
+          (one_begun layouts c.args.ram c.loop-layout.ram c.new.new.ram list layout c.in-Ok.handover c.requires here c.in-Ok.ensures.stands
+          c.in-Ok.ensures.layout (ap layout_kind c.in-Ok.ensures.layout) c.in-Ok.ensures.windows c.new.ensures.elsewhere inv.2),
     )
 
 pub invariant_of-result : goal.invariant_of-result

@@ -12,7 +12,8 @@ use Rattle.ghes_hub.proofs.sources.Sources.submit.Goals.{After-submit}
 moved : (c : After-submit) → Moves c.self.inside.ram c.self.inside.ram c.self.inside.list.items c.args.source c.index_mut.result.now c.submit.new.self
 moved c =
     let before = c.index_mut.result.now in
-    moves c.args.self.now c.self.inside.ram c.self.inside.ram c.self.inside.list.items c.args.source before c.submit.new.self c.self.view_is c.requires c.index_mut.ensures.value c.submit.ensures.places
+    moves c.args.self.now c.self.inside.ram c.self.inside.ram c.self.inside.list.items c.args.source before c.submit.new.self c.self.view_is c.requires
+    c.index_mut.ensures.value c.submit.ensures.places
     (SameWhere-refl (IsOff (layout_windows (layout_in before))) c.self.inside.ram)
 
 pub invariant_of-self : goal.invariant_of-self
@@ -27,7 +28,8 @@ pub returns-clause-submitted : goal.returns-clause-submitted
 returns-clause-submitted c =
     let ram = c.self.inside.ram in
     let list = c.self.inside.list.items in
-    on_ok_weaker c.submit.result (λ stands kind m at. submits_at ram list c.args.source c.index_mut.result.now c.submit.new.self c.args.block.now (moved (goal.at.returns-clause-submitted c).After-submit) stands kind m
+    on_ok_weaker c.submit.result (λ stands kind m at. submits_at ram list c.args.source c.index_mut.result.now c.submit.new.self c.args.block.now
+    (moved (goal.at.returns-clause-submitted c).After-submit) stands kind m
     (of_view kind c.args.self.now (record { ram = ram; list = list }) c.args.source m c.self.view_is at)) c.submit.ensures.stands
 
 pub returns-clause-others : goal.returns-clause-others
@@ -40,7 +42,8 @@ returns-clause-others c =
 pub returns-clause-number : goal.returns-clause-number
 returns-clause-number c =
     let h = moved (goal.at.returns-clause-number c).After-submit in
-    IfOk-weaker c.submit.result _ _ (λ waiting e. if_some _ c.submit.new.self (λ handover. waiting ≡ length (waiting_of handover)) (slice_get-same c.self.inside.list.items c.args.source c.submit.new.self h.within) e)
+    IfOk-weaker c.submit.result _ _ (λ waiting e. if_some _ c.submit.new.self (λ handover. waiting ≡ length (waiting_of handover))
+    (slice_get-same c.self.inside.list.items c.args.source c.submit.new.self h.within) e)
     c.submit.ensures.number
 
 pub returns-clause-exact : goal.returns-clause-exact
@@ -50,4 +53,5 @@ returns-clause-exact c =
 
 pub returns-clause-layouts : goal.returns-clause-layouts
 returns-clause-layouts c =
-    same_layouts c.self.inside.ram c.self.inside.ram c.self.inside.list.items c.args.source c.index_mut.result.now c.submit.new.self c.args.self.now (moved (goal.at.returns-clause-layouts c).After-submit) c.self.view_is
+    same_layouts c.self.inside.ram c.self.inside.ram c.self.inside.list.items c.args.source c.index_mut.result.now c.submit.new.self c.args.self.now
+    (moved (goal.at.returns-clause-layouts c).After-submit) c.self.view_is

@@ -9,4 +9,5 @@ read_sources-requires-clause-high c =
 
 pub returns-clause-found : goal.returns-clause-found
 returns-clause-found c =
-    found_is c.args.bytes.now c.in-Ok.found.0.now c.in-Ok.found.1 c.in-Ok-read_sources.sources.items (AreBytes-each c.args.bytes.now (λ k. omega (arith, c.type_inv.bytes k))) c.in-Ok.ensures.found c.in-Ok-read_sources.ensures
+    found_is c.args.bytes.now c.in-Ok.found.0.now c.in-Ok.found.1 c.in-Ok-read_sources.sources.items
+    (AreBytes-each c.args.bytes.now (λ k. omega (arith, c.type_inv.bytes k))) c.in-Ok.ensures.found c.in-Ok-read_sources.ensures

@@ -12,7 +12,8 @@ returns-in-Err-clause-made g c =
     let has : HestHasWords c.in-Err.why = search rules in
     let decoded = as_lent _ _ c.deref.result.now _ c.decode_line-len.ensures.bytes c.deref.ensures.value in
     still_none _ c.args.self.now.listeners.items c.args.self.now.hub _ _ (none_is c.args.self.now.hub (sym c.is_some.ensures ∙ c.if-is_some.false))
-    (no_table _ _ _ (take c.decode_line-len.result c.deref.result.now) _ decoded c.in-Err.why (table_refused (take c.decode_line-len.result c.deref.result.now) c.in-Err.why has c.in-Err.ensures.refused) c.refuse-in-Err.ensures)
+    (no_table _ _ _ (take c.decode_line-len.result c.deref.result.now) _ decoded c.in-Err.why (table_refused (take c.decode_line-len.result c.deref.result.now)
+    c.in-Err.why has c.in-Err.ensures.refused) c.refuse-in-Err.ensures)
 
 pub returns-in-Ok-clause-made : goal.returns-in-Ok-clause-made
 returns-in-Ok-clause-made g c =

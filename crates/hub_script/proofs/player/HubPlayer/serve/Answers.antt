@@ -13,4 +13,5 @@ returns-in-Ok-clause-made g c =
 pub returns-in_default-clause-made : goal.returns-in_default-clause-made
 returns-in_default-clause-made g c =
     let has : HubHasWords c.in-Err.field-0.why = search rules in
-    not_opened_for _ _ _ c.replace-listeners.ensures.value _ c.args.self.now.hub c.in-Err.field-0.listeners.items c.in-Err.field-0.why c.requires c.in-Err.ensures.back (hub_refused c.args.table.now c.in-Err.field-0.why has c.in-Err.ensures.exact) c.refuse.ensures
+    not_opened_for _ _ _ c.replace-listeners.ensures.value _ c.args.self.now.hub c.in-Err.field-0.listeners.items c.in-Err.field-0.why c.requires
+    c.in-Err.ensures.back (hub_refused c.args.table.now c.in-Err.field-0.why has c.in-Err.ensures.exact) c.refuse.ensures

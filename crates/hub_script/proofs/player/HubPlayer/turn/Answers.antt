@@ -6,10 +6,12 @@ use Rattle.hub_script.proofs.StageLemmas.{waiting_played, waiting_unwritten, at_
 use Rattle.hub_script.proofs.player.HubPlayer.turn.Goals as goal
 
 pub returns-in_default-clause-played : goal.returns-in_default-clause-played
-returns-in_default-clause-played g c = on_ok_weaker c.write_refusal.result (waiting_played _ c.args.self.now.listeners.items _ c.args.self.now.hub _ _ _ c.in_default.is refl) c.write_refusal.ensures.all
+returns-in_default-clause-played g c = on_ok_weaker c.write_refusal.result (waiting_played _ c.args.self.now.listeners.items _ c.args.self.now.hub _ _ _
+    c.in_default.is refl) c.write_refusal.ensures.all
 
 pub returns-in_default-clause-unwritten : goal.returns-in_default-clause-unwritten
-returns-in_default-clause-unwritten g c = on_err_weaker c.write_refusal.result (waiting_unwritten _ c.args.self.now.listeners.items _ c.args.self.now.hub _ _ _ c.in_default.is refl) c.write_refusal.ensures.part
+returns-in_default-clause-unwritten g c = on_err_weaker c.write_refusal.result (waiting_unwritten _ c.args.self.now.listeners.items _ c.args.self.now.hub _ _ _
+    c.in_default.is refl) c.write_refusal.ensures.part
 
 pub returns-then-not-are_named : goal.returns-then-not-are_named
 returns-then-not-are_named g c =
@@ -31,4 +33,5 @@ pub returns-clause-played : goal.returns-clause-played
 returns-clause-played g c = on_ok_weaker c.take_turns.result (line_at_hub _ c.args.self.now.listeners.items _ c.args.self.now.hub c.in-Some.hub c.in-Some.is _ _ _ _) c.take_turns.ensures.played
 
 pub returns-clause-unwritten : goal.returns-clause-unwritten
-returns-clause-unwritten g c = on_err_weaker c.take_turns.result (unwritten_at_hub _ c.args.self.now.listeners.items _ c.args.self.now.hub c.in-Some.hub c.in-Some.is _ _ _ _) c.take_turns.ensures.unwritten
+returns-clause-unwritten g c = on_err_weaker c.take_turns.result (unwritten_at_hub _ c.args.self.now.listeners.items _ c.args.self.now.hub c.in-Some.hub
+    c.in-Some.is _ _ _ _) c.take_turns.ensures.unwritten

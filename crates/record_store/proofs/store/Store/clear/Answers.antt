@@ -7,7 +7,8 @@ returns-in-Ok g c =
     let made = clear_made g.F.Flash.tells c.args.self.now c.start_clear.new.self c.finish.new.self c.args.id _ c.finish.result c.in-Ok.ensures.leaves c.in-Ok.ensures.answer c.finish.ensures in
     record {
       answer = made.answer;
-      reads = finish_reads (λ (x : Unit {0}) (reads : ℕ). reads) c.args.self.now c.start_clear.new.self c.finish.new.self _ c.finish.result c.in-Ok.ensures.reads c.finish.ensures.error c.finish.ensures.reads;
+      reads = finish_reads (λ (x : Unit {0}) (reads : ℕ). reads) c.args.self.now c.start_clear.new.self c.finish.new.self _ c.finish.result
+          c.in-Ok.ensures.reads c.finish.ensures.error c.finish.ensures.reads;
       leaves = made.leaves;
     }
 

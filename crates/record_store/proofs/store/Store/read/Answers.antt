@@ -48,7 +48,8 @@ returns-in-Ok-clause-answer g c tells =
     let had = stored_at c.args.id c.in-Some.place is tells c.in-Some.ensures.place in
     let inside = subst (λ (v : StoreView). IsStoredAt (entry_at v.layout.slot_size v.layout.slots v.flash.told.image) v.layout.slots c.args.id c.in-Some.place had.0) (sym c.self.view_is) had.1 in
     of_old g.F.Flash.tells c.args.self.now c.settle.new.self i.found
-    (λ (layout : Layout) (s : Stored). (body : List ℕ) × ((generation : ℕ) × (get s c.args.id ≡ Some (body, generation))) × (c.in-Some.place.len ≡ length body) × (c.read_record.new.out ≡ body ++ drop c.in-Some.place.len c.args.out.now)) is tells (
+    (λ (layout : Layout) (s : Stored). (body : List ℕ) × ((generation : ℕ) × (get s c.args.id ≡ Some (body, generation))) × (c.in-Some.place.len ≡ length body)
+    × (c.read_record.new.out ≡ body ++ drop c.in-Some.place.len c.args.out.now)) is tells (
       (had.0).body,
       (c.in-Some.place.generation, (had.1).stored),
       sym (had.1).is.len,
@@ -113,11 +114,13 @@ invariant_of-self-in-Err g c =
 pub returns-in-Ok-clause-still : goal.returns-in-Ok-clause-still
 returns-in-Ok-clause-still g c sure =
     let i = c.self.inside in
-    read_still g.F.Flash.tells i.geometry (g.F.Flash.state i.flash) (g.F.Flash.state c.read_record.new.flash) i.in_doubt (pending_of (layout_of i.geometry) i.buffer.items i.work) c.args.self.now c.in-Some.place.len _
+    read_still g.F.Flash.tells i.geometry (g.F.Flash.state i.flash) (g.F.Flash.state c.read_record.new.flash) i.in_doubt
+    (pending_of (layout_of i.geometry) i.buffer.items i.work) c.args.self.now c.in-Some.place.len _
     (c.self.view_is ∙ c.in_ok-settle.ensures.still sure) c.in-Ok.ensures.stays
 
 pub returns-in-Ok-clause-reads : goal.returns-in-Ok-clause-reads
 returns-in-Ok-clause-reads g c =
     let i = c.self.inside in
-    read_reads i.geometry (g.F.Flash.state i.flash) (g.F.Flash.state c.read_record.new.flash) i.in_doubt (pending_of (layout_of i.geometry) i.buffer.items i.work) c.args.self.now c.settle.new.self c.in-Some.place.len
+    read_reads i.geometry (g.F.Flash.state i.flash) (g.F.Flash.state c.read_record.new.flash) i.in_doubt (pending_of (layout_of i.geometry) i.buffer.items
+    i.work) c.args.self.now c.settle.new.self c.in-Some.place.len
     c.self.view_is c.in_ok-settle.ensures.leaves.equivalent.layout c.in_ok-settle.ensures.reads c.in-Ok.ensures.stays.counted

@@ -57,20 +57,24 @@ invariant_of-self-in-Err g c =
     let idle = idle_work (layout_of i.geometry) i.buffer.items i.work (ap (λ (u : StoreView). u.pending) c.self.view_is ∙ c.requires.idle) in
     record {
       fits = record { size = c.rescan.ensures.shape.size ∙ c.self.invariant.fits.size; sector_size = c.rescan.ensures.shape.sector_size ∙ c.self.invariant.fits.sector_size };
-      listing = IsListing-rescanned i.geometry.slots i.geometry.slot_size i.found c.rescan.new.found c.rescan.ensures.index c.rescan.ensures.free c.rescan.ensures.few c.rescan.ensures.room c.self.invariant.listing.room;
+      listing = IsListing-rescanned i.geometry.slots i.geometry.slot_size i.found c.rescan.new.found c.rescan.ensures.index c.rescan.ensures.free
+          c.rescan.ensures.few c.rescan.ensures.room c.self.invariant.listing.room;
       room = c.self.invariant.room;
       form = subst (λ (w : Begun). IsWork i.geometry c.rescan.new.found i.buffer.items w) (sym idle) tt;
       certain = c.self.invariant.certain;
       knows = λ tells sure. absurd (cc);
-      spare = λ tells. rescanned_spare i.geometry.slot_size i.geometry.slots (g.F.Flash.state i.flash).told (g.F.Flash.state c.rescan.new.flash).told (c.rescan.ensures.nearly tells) (c.self.invariant.spare tells);
+      spare = λ tells. rescanned_spare i.geometry.slot_size i.geometry.slots (g.F.Flash.state i.flash).told (g.F.Flash.state c.rescan.new.flash).told
+          (c.rescan.ensures.nearly tells) (c.self.invariant.spare tells);
     }
 
 pub returns-in-Ok-clause-leaves : goal.returns-in-Ok-clause-leaves
 returns-in-Ok-clause-leaves g c =
     let i = c.self.inside in
     let shape = c.rescan.ensures.shape in
-    looks_again g.F.Flash.tells i.geometry (g.F.Flash.state i.flash) (g.F.Flash.state c.rescan.new.flash) c.rescan.new.found i.in_doubt (pending_of (layout_of i.geometry) i.buffer.items i.work) c.args.self.now _ c.self.view_is
-    c.if-not-self.false (ap (λ (u : StoreView). u.pending) c.self.view_is ∙ c.requires.idle) (scanned g (goal.at.returns-in-Ok-clause-leaves g c).After-rescan) c.in-Ok.ensures.recovered c.in-Ok.ensures.shape.cause.ok
+    looks_again g.F.Flash.tells i.geometry (g.F.Flash.state i.flash) (g.F.Flash.state c.rescan.new.flash) c.rescan.new.found i.in_doubt
+    (pending_of (layout_of i.geometry) i.buffer.items i.work) c.args.self.now _ c.self.view_is
+    c.if-not-self.false (ap (λ (u : StoreView). u.pending) c.self.view_is ∙ c.requires.idle) (scanned g (goal.at.returns-in-Ok-clause-leaves g c).After-rescan)
+    c.in-Ok.ensures.recovered c.in-Ok.ensures.shape.cause.ok
     (record {
       once = tt;
       lit = shape.lit;
@@ -82,13 +86,16 @@ pub returns-in-Err-clause-leaves : goal.returns-in-Err-clause-leaves
 returns-in-Err-clause-leaves g c =
     let i = c.self.inside in
     let shape = c.rescan.ensures.shape in
-    looks_failed g.F.Flash.tells i.geometry (g.F.Flash.state i.flash) (g.F.Flash.state c.rescan.new.flash) i.in_doubt (pending_of (layout_of i.geometry) i.buffer.items i.work) c.args.self.now c.self.view_is
-    c.if-not-self.false (ap (λ (u : StoreView). u.pending) c.self.view_is ∙ c.requires.idle) (scanned g (goal.at.returns-in-Err-clause-leaves g c).After-rescan) shape.cause.never_falls c.in-Err.ensures.shape.cause.err shape.lit c.in-Err.ensures.shape.once
+    looks_failed g.F.Flash.tells i.geometry (g.F.Flash.state i.flash) (g.F.Flash.state c.rescan.new.flash) i.in_doubt
+    (pending_of (layout_of i.geometry) i.buffer.items i.work) c.args.self.now c.self.view_is
+    c.if-not-self.false (ap (λ (u : StoreView). u.pending) c.self.view_is ∙ c.requires.idle) (scanned g (goal.at.returns-in-Err-clause-leaves g c).After-rescan)
+    shape.cause.never_falls c.in-Err.ensures.shape.cause.err shape.lit c.in-Err.ensures.shape.once
 
 pub returns-in-Ok-clause-free : goal.returns-in-Ok-clause-free
 returns-in-Ok-clause-free g c tells =
     let i = c.self.inside in
-    free_rescanned i.geometry (g.F.Flash.state i.flash) (g.F.Flash.state c.rescan.new.flash) c.rescan.new.found i.in_doubt false (pending_of (layout_of i.geometry) i.buffer.items i.work) c.args.self.now c.self.view_is (c.in-Ok.ensures.recovered tells)
+    free_rescanned i.geometry (g.F.Flash.state i.flash) (g.F.Flash.state c.rescan.new.flash) c.rescan.new.found i.in_doubt false
+    (pending_of (layout_of i.geometry) i.buffer.items i.work) c.args.self.now c.self.view_is (c.in-Ok.ensures.recovered tells)
 
 pub returns-then-not-self-clause-reads : goal.returns-then-not-self-clause-reads
 returns-then-not-self-clause-reads g c = ready_reads {T = Unit {0}} c.args.self.now tt (sym (ap (λ (u : StoreView). u.in_doubt) c.self.view_is) ∙ c.if-not-self.true)
@@ -96,5 +103,6 @@ returns-then-not-self-clause-reads g c = ready_reads {T = Unit {0}} c.args.self.
 pub returns-in-Ok-clause-reads : goal.returns-in-Ok-clause-reads
 returns-in-Ok-clause-reads g c =
     let i = c.self.inside in
-    looked_reads {T = Unit {0}} i.geometry (g.F.Flash.state i.flash) (g.F.Flash.state c.rescan.new.flash) i.in_doubt false (pending_of (layout_of i.geometry) i.buffer.items i.work) c.args.self.now tt c.self.view_is
+    looked_reads {T = Unit {0}} i.geometry (g.F.Flash.state i.flash) (g.F.Flash.state c.rescan.new.flash) i.in_doubt false
+    (pending_of (layout_of i.geometry) i.buffer.items i.work) c.args.self.now tt c.self.view_is
     c.if-not-self.false c.in-Ok.ensures.shape.counted

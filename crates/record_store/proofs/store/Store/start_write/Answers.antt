@@ -20,11 +20,13 @@ returns-clause-leaves g c =
 pub returns-clause-slots : goal.returns-clause-slots
 returns-clause-slots g c =
     on_ok_weaker c.begin_write.result (λ free told.
-    same_slots_for c.args.self.now c.begin_write.new.self (length c.args.bytes.now) (c.begin_write.ensures.leaves.equivalent.layout ∙ c.in_ok-settle.ensures.leaves.equivalent.layout) (free told ∙ c.in_ok-settle.ensures.free told))
+    same_slots_for c.args.self.now c.begin_write.new.self (length c.args.bytes.now) (c.begin_write.ensures.leaves.equivalent.layout
+    ∙ c.in_ok-settle.ensures.leaves.equivalent.layout) (free told ∙ c.in_ok-settle.ensures.free told))
     c.begin_write.ensures.free
 
 pub returns-clause-reads : goal.returns-clause-reads
 returns-clause-reads g c =
-    subst (λ (l : Layout). TakesReads (λ done. raised (2 * parts_of (room_of l) (length c.args.bytes.now))) c.args.self.now c.begin_write.new.self c.begin_write.result) c.in_ok-settle.ensures.leaves.equivalent.layout
+    subst (λ (l : Layout). TakesReads (λ done. raised (2 * parts_of (room_of l) (length c.args.bytes.now))) c.args.self.now c.begin_write.new.self
+    c.begin_write.result) c.in_ok-settle.ensures.leaves.equivalent.layout
     (start_reads g.F.Flash.tells (2 * parts_of (room_of c.settle.new.self.layout) (length c.args.bytes.now)) c.args.self.now c.settle.new.self c.begin_write.new.self _ c.begin_write.result
     c.in_ok-settle.ensures.reads c.begin_write.ensures.still)

@@ -12,7 +12,8 @@ returns-in-Ok g c =
     record {
       answer = made.answer;
       placed = made.placed;
-      reads = finish_reads (λ (x : Unit {0}). raised (2 * parts_of (room_of c.args.self.now.layout) (length c.args.bytes.now))) c.args.self.now c.start_write.new.self c.finish.new.self _ c.finish.result c.in-Ok.ensures.reads c.finish.ensures.error c.finish.ensures.reads;
+      reads = finish_reads (λ (x : Unit {0}). raised (2 * parts_of (room_of c.args.self.now.layout) (length c.args.bytes.now))) c.args.self.now
+          c.start_write.new.self c.finish.new.self _ c.finish.result c.in-Ok.ensures.reads c.finish.ensures.error c.finish.ensures.reads;
       leaves = made.leaves;
     }
 

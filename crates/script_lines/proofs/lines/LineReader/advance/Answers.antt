@@ -23,7 +23,8 @@ returns-then-is_too_long-clause-too_long g c =
 pub returns-then-is_at_end-clause-next : goal.returns-then-is_at_end-clause-next
 returns-then-is_at_end-clause-next g c =
     let inv = c.taking.invariant in
-    next_is_last _ _ _ _ _ _ inv.more.0 inv.more.1 inv.place c.in_default.ensures.first (λ told. inv.at_end told (sym c.is_at_end.ensures ∙ c.if-is_at_end.true)) _ c.read_last.result c.read_last.ensures.at_end c.read_last.ensures.read
+    next_is_last _ _ _ _ _ _ inv.more.0 inv.more.1 inv.place c.in_default.ensures.first
+    (λ told. inv.at_end told (sym c.is_at_end.ensures ∙ c.if-is_at_end.true)) _ c.read_last.result c.read_last.ensures.at_end c.read_last.ensures.read
 
 pub returns-in-Ok-eq0-clause-next : goal.returns-in-Ok-eq0-clause-next
 returns-in-Ok-eq0-clause-next g c =

@@ -16,11 +16,13 @@ some searched bytes scanned at e h first passes =
 pub returns-in-None-clause-first : goal.returns-in-None-clause-first
 returns-in-None-clause-first c =
     none _ _ c.args.scanned
-    (drop-pending c.self.inside.start c.args.scanned c.self.inside.end c.self.inside.buffer.items c.deref.result.now c.args.self.now.pending c.deref.ensures.value (ap (λ (r : Reading). r.pending) c.self.view_is) c.requires.within (omega arith))
+    (drop-pending c.self.inside.start c.args.scanned c.self.inside.end c.self.inside.buffer.items c.deref.result.now c.args.self.now.pending
+    c.deref.ensures.value (ap (λ (r : Reading). r.pending) c.self.view_is) c.requires.within (omega arith))
     c.requires.scanned c.in-None.ensures
 
 pub returns-in-Some-clause-first : goal.returns-in-Some-clause-first
 returns-in-Some-clause-first c =
     some _ _ c.args.scanned c.in-Some.at
-    (drop-pending c.self.inside.start c.args.scanned c.self.inside.end c.self.inside.buffer.items c.deref.result.now c.args.self.now.pending c.deref.ensures.value (ap (λ (r : Reading). r.pending) c.self.view_is) c.requires.within (omega arith))
+    (drop-pending c.self.inside.start c.args.scanned c.self.inside.end c.self.inside.buffer.items c.deref.result.now c.args.self.now.pending
+    c.deref.ensures.value (ap (λ (r : Reading). r.pending) c.self.view_is) c.requires.within (omega arith))
     c.requires.scanned c.in-Some.ensures.0 c.in-Some.ensures.1

@@ -8,7 +8,8 @@ use Rattle.script_text.proofs.check_line.CheckLine.from_text.Goals as goal
 
 pub returns-in-Err-from_parts : goal.returns-in-Err-from_parts
 returns-in-Err-from_parts c =
-    behind_breaks check_codes_of CheckFollows all_check_words IsCheckLine checks c.in-Ok.word c.args.text.now c.bytes-at.result.now _ c.in-Err-from_parts.reach c.requires c.bytes-at.ensures c.in-Ok.ensures.begins (between_to_end c.args.text.now _ _ (omega arith)) c.in-Err-from_parts.ensures
+    behind_breaks check_codes_of CheckFollows all_check_words IsCheckLine checks c.in-Ok.word c.args.text.now c.bytes-at.result.now _ c.in-Err-from_parts.reach
+    c.requires c.bytes-at.ensures c.in-Ok.ensures.begins (between_to_end c.args.text.now _ _ (omega arith)) c.in-Err-from_parts.ensures
 
 pub returns-in-Err : goal.returns-in-Err
 returns-in-Err c = passed_all check_codes_of CheckFollows all_check_words IsCheckLine checks c.args.text.now c.in-Err.reach c.requires c.in-Err.ensures

@@ -7,4 +7,5 @@ pub entry-requires : goal.entry-requires
 entry-requires c = omega (arith, length_numbered entry_line c.args.self.now.entries)
 
 pub returns-clause-text : goal.returns-clause-text
-returns-clause-text c = c.entry_line.ensures.text ∙ numbered_of entry_line c.args.self.now.entries c.args.index c.entry.result (omega (arith, length_numbered entry_line c.args.self.now.entries)) c.entry.ensures
+returns-clause-text c = c.entry_line.ensures.text ∙ numbered_of entry_line c.args.self.now.entries c.args.index c.entry.result
+    (omega (arith, length_numbered entry_line c.args.self.now.entries)) c.entry.ensures

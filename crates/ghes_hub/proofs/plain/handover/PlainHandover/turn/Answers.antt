@@ -19,7 +19,8 @@ invariant_of-self c =
 pub returns : goal.returns
 returns c = record {
   turned = λ m st.
-      subst (λ (place : Option Ends). Turns c.args.side c.one_turn-event.result.1 (over c.args.self.now c.args.ram.now) (over (view_of place c.one_turn-event.new.blocks) c.one_turn-event.new.ram) m) (sym c.put_back.ensures)
+      subst (λ (place : Option Ends). Turns c.args.side c.one_turn-event.result.1 (over c.args.self.now c.args.ram.now)
+      (over (view_of place c.one_turn-event.new.blocks) c.one_turn-event.new.ram) m) (sym c.put_back.ensures)
       (taken_turns c.args.side c.self.inside.ends c.in-Some.ends c.self.inside.blocks c.args.self.now c.args.ram.now (sym c.take.ensures.value ∙ c.in-Some.is) c.self.invariant c.self.view_is
       c.one_turn-event.result.0 c.one_turn-event.new.blocks c.one_turn-event.new.ram c.one_turn-event.result.1 c.requires c.one_turn-event.ensures m st);
 }

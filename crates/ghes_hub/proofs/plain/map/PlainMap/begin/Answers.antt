@@ -7,7 +7,8 @@ use Rattle.ghes_hub.proofs.plain.map.PlainMap.begin.Goals as goal
 
 pub begin-requires : goal.begin-requires
 begin-requires c =
-    has_block c.args.self.now.status c.args.self.now.window c.write_address.new.ram (subst (HasAddressed c.args.self.now.status c.args.self.now.window) (sym c.write_address.ensures) (HasPlain-with_address c.args.self.now c.args.ram.now c.requires))
+    has_block c.args.self.now.status c.args.self.now.window c.write_address.new.ram (subst (HasAddressed c.args.self.now.status c.args.self.now.window)
+    (sym c.write_address.ensures) (HasPlain-with_address c.args.self.now c.args.ram.now c.requires))
 
 pub returns : goal.returns
 returns c = started_is c.args.self.now c.args.ram.now c.write_address.new.ram c.begin.new.ram c.requires c.write_address.ensures c.begin.ensures
