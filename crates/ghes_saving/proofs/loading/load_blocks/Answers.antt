@@ -1,4 +1,5 @@
 use Rattle.std.proofs.Common.{◌≡◌, ◌∙◌, ◌<◌, ◌≤◌, length, set, refl, sym, ap, arith}
+use Rattle.std.proofs.lemmas.Result.{err_from_is_err_and}
 use Rattle.ghes_saving.proofs.LoadLemmas.{goes_first, goes_next, goes_wrong, goes_all, list_kept}
 use Rattle.ghes_saving.proofs.loading.load_blocks.Goals as goal
 
@@ -7,7 +8,8 @@ loop-init c = record { goes = goes_first c.args.index c.args.count c.args.source
 
 pub returns-in_err-behind-clause-refused : goal.returns-in_err-behind-clause-refused
 returns-in_err-behind-clause-refused c =
-    rw c.from_residual.ensures
+    let p = err_from_is_err_and c.from_residual.result c.from_residual.ensures.1 in
+    rw (p.1, p.2)
     (goes_wrong c.args.index c.args.count c.loop.counter c.args.sources.now c.loop.sources c.args.rest.now c.loop.behind.now _ (omega arith)
      c.loop.invariant.goes c.in_err-behind.ensures.refused)
 
