@@ -10,7 +10,7 @@ use Rattle.erst_device.specs.declared.registers.Running.TheVariants.{Nothing, Re
 use Rattle.erst_device.specs.declared.status.CommandStatus.{CommandStatus}
 use Rattle.erst_device.specs.declared.status.CommandStatus.TheVariants.{Success}
 use Rattle.erst_device.specs.Starts.{HasLength}
-use Rattle.erst_device.specs.DeviceState.{DeviceState}
+use Rattle.erst_device.specs.DeviceState.{DeviceState, records}
 
 -- the read that runs
 abbrev pub reading_of : Running → Option ℕ
@@ -65,3 +65,8 @@ RunsAfter tells (Err status) offset store = store.pending ≡ Idle
 abbrev pub FindsRecord : Type 0 → Stored → ℕ → Option (ℕ × ℕ) → Type 0
 FindsRecord tells stored id None = tells → get stored id ≡ None
 FindsRecord tells stored id (Some record_found) = (record_found.0 ≡ id) × (is_reserved id ≡ false) × (tells → HasLength stored id record_found.1)
+
+-- the length and the identifier of the record that the read that runs shows: none where no read runs
+abbrev pub ReadingIs : DeviceState → Option (ℕ × ℕ) → Type 0
+ReadingIs state None = state.reading ≡ None
+ReadingIs state (Some header) = (state.reading ≡ Some header.1) × (is_reserved header.1 ≡ false) × HasLength (records state) header.1 header.0

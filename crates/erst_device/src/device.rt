@@ -9,9 +9,10 @@ ghost use Rattle.erst_entries.specs.Actions.{action_of};
 ghost use Rattle.erst_device.specs.DeviceState.{at_first, KnowsCopies};
 ghost use Rattle.erst_device.specs.Actions.{Acts, gives_up};
 ghost use Rattle.erst_device.specs.Effects.{Effect};
-ghost use Rattle.erst_device.specs.Registers.{seen, Runs};
+ghost use Rattle.erst_device.specs.Registers.{seen, Runs, ReadingIs};
 
 use crate::registers::{Registers, Running};
+use crate::status::CommandStatus;
 use erst_entries::Action;
 use flash_model::Flash;
 use record_store::{Store, StoreError};
@@ -79,6 +80,21 @@ impl<F: Flash> Device<F> {
         ensures { self.new ≡ record self.old { value = value } }
     {
         self.registers.value = value;
+    }
+
+    /// Sets the command status.
+    pub fn set_status(&mut self, status: CommandStatus)
+        ensures { self.new ≡ record self.old { status = status } }
+    {
+        self.registers.status = status;
+    }
+
+    /// The length and the identifier of the record that the read that runs shows. It changes nothing.
+    pub fn reading(&mut self) -> Option<(u32, u64)>
+        ensures same { self.new ≡ self.old }
+        ensures reading { F.tells → ReadingIs self.old result }
+    {
+        self.registers.reading(&mut self.store)
     }
 
     /// Writes a code to ACTION: the device carries out the action of this code. `range` is the log range, as long as the longest

@@ -13,5 +13,6 @@ mod stepping;
 mod timings;
 
 pub use device::{Device, LOG_RANGE};
+pub use drafts::header_at;
 pub use registers::{Operation, Registers, Running};
 pub use status::CommandStatus;

@@ -105,7 +105,7 @@ impl Registers {
 }
 
 // The record that a read names, of a store that has one: its identifier and its length.
-fn find_record<F: Flash>(store: &mut Store<F>, id: u64, least: RecordId) -> Option<(u64, u32)>
+pub fn find_record<F: Flash>(store: &mut Store<F>, id: u64, least: RecordId) -> Option<(u64, u32)>
     requires ready { IsReady store.old }
     ensures same { store.new ≡ store.old }
     ensures finds { FindsRecord F.tells (stored store.old) (named id least) result }

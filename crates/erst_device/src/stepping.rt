@@ -4,15 +4,30 @@ ghost use Rattle.base_model.specs.Layout.{room_of, reach_of};
 ghost use Rattle.record_store.specs.Store.{IsBusy};
 ghost use Rattle.erst_entries.specs.declared.actions.Action.TheVariants.{CheckBusyStatus};
 ghost use Rattle.erst_device.specs.Actions.{Acts};
-ghost use Rattle.erst_device.specs.Registers.{seen, Runs, IsReading};
+ghost use Rattle.erst_device.specs.Registers.{seen, Runs, IsReading, ReadingIs};
 
 use crate::registers::{Registers, Running};
+use crate::starting::find_record;
 use crate::status::CommandStatus;
 use flash_model::Flash;
 use record_slots::RecordId;
 use record_store::Store;
 
 impl Registers {
+    /// The length and the identifier of the record that the read that runs shows.
+    pub fn reading<F: Flash>(&self, store: &mut Store<F>) -> Option<(u32, u64)>
+        requires runs { Runs F.tells self.now.running self.now.offset store.old }
+        ensures same { store.new ≡ store.old }
+        ensures reading { F.tells → ReadingIs (seen self.now store.old) result }
+    {
+        let Running::Reading(id) = self.running else {
+            return None;
+        };
+        let least = RecordId::new(id)?;
+        let (found, size) = find_record(store, id, least)?;
+        Some((size, found))
+    }
+
     /// Makes the next step of the execution that runs.
     pub fn go_on<F: Flash>(&mut self, store: &mut Store<F>, range: &mut [u8])
         requires runs { Runs F.tells self.old.running self.old.offset store.old }

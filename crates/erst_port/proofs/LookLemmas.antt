@@ -8,9 +8,9 @@ use Rattle.record_store.specs.Store.{StoreView, Pending, Idle, stored, IsReady, 
 use Rattle.record_store.specs.Answers.{AnswersByItself}
 use Rattle.record_store.specs.declared.errors.StoreError.{StoreError}
 use Rattle.erst_entries.specs.declared.actions.Action.{Action}
-use Rattle.erst_entries.specs.declared.actions.Action.TheVariants.{ExecuteOperation, GetRecordIdentifier, GetRecordCount, GetErrorLogAddressRange}
+use Rattle.erst_entries.specs.declared.actions.Action.TheVariants.{ExecuteOperation, CheckBusyStatus, GetRecordIdentifier, GetRecordCount, GetErrorLogAddressRange}
 use Rattle.base_model.specs.Flash.{LosesOnlyByChange}
-use Rattle.erst_device.specs.declared.status.CommandStatus.TheVariants.{HardwareNotAvailable}
+use Rattle.erst_device.specs.declared.status.CommandStatus.TheVariants.{HardwareNotAvailable, Failed}
 use Rattle.erst_device.specs.StoreCalls.{FoundNext}
 use Rattle.erst_device.specs.DeviceState.{DeviceState, records, IsRunning, given_up}
 use Rattle.erst_device.specs.Actions.{told_by, begun_by, waits, found, Acts, Begins, Ends, SetsOffset, SetsId, Waits, Executes, NoneRuns, Steps, Shows, Tells, FindsNext, Counts, Ignores}
@@ -218,6 +218,15 @@ effect_told old range action left number is effect =
     with_causes old range action (record left { value = number }) (on_store old range action left effect) effect.status
     (λ other none. absurd (let e : Some GetErrorLogAddressRange ≡ Some GetRecordIdentifier = sym is ∙ other in cc))
     (λ other count. absurd (let e : Some GetErrorLogAddressRange ≡ Some GetRecordCount = sym is ∙ other in cc))
+
+-- a read that is told to have failed has no fault
+pub effect_failed : (old : DeviceState) (range : List ℕ) (action : Option Action) (left : DeviceState) → action ≡ Some CheckBusyStatus
+    → Effect (Unit {0}) old range action left → Effect (Unit {0}) old range action (record left { status = Failed })
+effect_failed old range action left is effect =
+    with_causes old range action (record left { status = Failed }) (on_store old range action left effect)
+    (λ hardware. absurd (let e : Failed ≡ HardwareNotAvailable = hardware in cc))
+    (λ other none. absurd (let e : Some CheckBusyStatus ≡ Some GetRecordIdentifier = sym is ∙ other in cc))
+    (λ other count. absurd (let e : Some CheckBusyStatus ≡ Some GetRecordCount = sym is ∙ other in cc))
 
 -- The identifier that is told
 

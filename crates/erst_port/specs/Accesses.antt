@@ -19,6 +19,8 @@ use Rattle.erst_port.specs.declared.windows.Location.{Location}
 use Rattle.erst_port.specs.declared.windows.Location.TheVariants.{Action, Value, LowHalf, HighHalf, Bytes, Nowhere}
 use Rattle.erst_port.specs.PortState.{PortState, IsMade}
 use Rattle.erst_port.specs.Rounds.{GoesRound}
+use Rattle.erst_port.specs.Reads.{Misreads}
+use Rattle.erst_device.specs.declared.status.CommandStatus.TheVariants.{Failed}
 
 -- a read of a number: ACTION reads as 0
 abbrev pub number_read : Location → PortState → Width → Result ℕ PortError
@@ -30,19 +32,21 @@ number_read (Bytes start) state width = Ok (number_at state.range start (bits wi
 number_read Nowhere state width = Err BadAccess
 
 -- what the port makes of the number that the device left: it tells where the log range stands in memory, and where
--- GET_RECORD_IDENTIFIER found no identifier it is carried out once more, from the first one on
-pub data Tells (address code : ℕ) (left : DeviceState) (range : List ℕ) : DeviceState → Type 0 where
-  Address : code ≡ code_of GetErrorLogAddressRange → Tells address code left range (record left { value = address })
+-- GET_RECORD_IDENTIFIER found no identifier it is carried out once more, from the first one on. A read of a record that is none has FAILED
+pub data Tells (old : DeviceState) (address code : ℕ) (left : DeviceState) (range : List ℕ) : DeviceState → Type 0 where
+  Address : code ≡ code_of GetErrorLogAddressRange → Tells old address code left range (record left { value = address })
   Round : (new : DeviceState) → code ≡ code_of GetRecordIdentifier → left.value ≡ 2 ^ 64 - 1
-      → Acts (Unit {0}) left range (Some GetRecordIdentifier) new range → Tells address code left range new
-  Number : code ≢ code_of GetErrorLogAddressRange → (code ≡ code_of GetRecordIdentifier → left.value ≢ 2 ^ 64 - 1) → Tells address code left range left
+      → Acts (Unit {0}) left range (Some GetRecordIdentifier) new range → Tells old address code left range new
+  Refuses : Misreads old code left range → Tells old address code left range (record left { status = Failed })
+  Number : code ≢ code_of GetErrorLogAddressRange → (code ≡ code_of GetRecordIdentifier → left.value ≢ 2 ^ 64 - 1)
+      → (Misreads old code left range → ⊥) → Tells old address code left range left
 
 -- an action over a log range that stands at an address: what the device does and what is made of its number, what power lost in it leaves
 -- of the records, and the identifier that is told where no fault was counted
 pub record Acted (old : DeviceState) (range : List ℕ) (address code : ℕ) (new : DeviceState) (range_after : List ℕ) : Type 0 where
   pub left : DeviceState
   pub acts : Acts (Unit {0}) old range (action_of code) left range_after
-  pub told : Tells address code left range_after new
+  pub told : Tells old address code left range_after new
   pub effect : Effect (Unit {0}) old range (action_of code) new
   pub copies : gives_up (action_of code) ≡ true → KnowsCopies old.store
   pub round : code ≡ code_of GetRecordIdentifier → (Rose old.store.flash.faults new.store.flash.faults → ⊥) → GoesRound old.cursor (records old) new.value

@@ -9,6 +9,7 @@ pub mod Places
 pub mod PortState
 pub mod Changes
 pub mod Rounds
+pub mod Reads
 pub mod Accesses
 pub mod PortTables
 pub mod Openings

@@ -8,13 +8,14 @@ ghost use Rattle.erst_device.specs.DeviceState.{at_first};
 ghost use Rattle.erst_port.specs.Accesses.{Acted};
 
 use crate::MirrorFlash;
+use crate::reading::check;
 use erst_device::Device;
 use erst_entries::Action;
 use flash_model::Flash;
 use record_store::StoreError;
 
 /// Carries out the action of a code over a log range that stands at an address. GET_RECORD_IDENTIFIER goes round: where the device tells that
-/// it is behind the last identifier, it is asked for the first one.
+/// it is behind the last identifier, it is asked for the first one. A read of a record that is none has FAILED.
 pub fn act(device: &mut Device<MirrorFlash>, range: &mut [u8], address: u64, code: u32)
     requires { length range.old ≡ reach_of (room_of device.old.store.layout) }
     ensures acted { Acted device.old range.old address code device.new range.new }
@@ -29,7 +30,12 @@ fn take(device: &mut Device<MirrorFlash>, range: &mut [u8], address: u64, code: 
     requires { length range.old ≡ reach_of (room_of device.old.store.layout) }
     ensures { Acted device.old range.old address code device.new range.new }
 {
+    let stored = device.reading();
     device.action(code, range);
+    if code == u32::from(Action::CheckBusyStatus.code()) {
+        check(device, range, stored);
+        return;
+    }
     if code == u32::from(Action::GetErrorLogAddressRange.code()) {
         device.set_value(address);
         return;

@@ -20,6 +20,7 @@ mod moving;
 mod open;
 mod parts;
 mod port;
+mod reading;
 mod saving;
 mod settling;
 mod table;

@@ -21,9 +21,12 @@ use Rattle.erst_port.specs.declared.windows.Window.{Window}
 use Rattle.erst_port.specs.declared.windows.Window.TheVariants.{Registers, LogRange}
 use Rattle.erst_port.specs.Places.{are_apart}
 use Rattle.erst_port.specs.PortState.{PortState, IsPort}
-use Rattle.erst_port.specs.Accesses.{Tells, Address, Round, Number, Acted, ActionWritten, with_value, with_bytes, bytes_read, bytes_stored}
+use Rattle.erst_port.specs.Accesses.{Tells, Address, Round, Refuses, Number, Acted, ActionWritten, with_value, with_bytes, bytes_read, bytes_stored}
 use Rattle.port_laws.specs.PortSpaces.{SpaceState, place_in, as_told, read_at, WrittenAt, bytes_read_at, bytes_stored_at, caught_up, Goes}
+use Rattle.erst_device.specs.DeviceState.{records}
+use Rattle.erst_port.specs.Reads.{Misreads, SayThemselves}
 use Rattle.port_laws.specs.Machines.{machine_of}
+use Rattle.port_laws.proofs.ReadLemmas.{none_misread}
 use Rattle.port_laws.proofs.PlaceLemmas.{place-register, place-range, range-bytes}
 use Rattle.erst_machine.specs.Areas.{place_location}
 
@@ -97,11 +100,13 @@ module _ (addresses : Addresses) (old new : SpaceState) where
       )
 
   -- what the device left is what the port shows, but for two codes
-  pub left_is : (address code : ℕ) (left : DeviceState) (range : List ℕ) (device : DeviceState) → (code ≡ 0xD → ⊥) → (code ≡ 0x8 → ⊥) → Tells address code left range device → device ≡ left
-  left_is address code left range device not_address not_next tells = elim tells as (λ device tells. device ≡ left) [
+  pub left_is : (address code : ℕ) (left : DeviceState) (range : List ℕ) (device : DeviceState) → (code ≡ 0xD → ⊥) → (code ≡ 0x8 → ⊥)
+      → (Misreads old.port.device code left range → ⊥) → Tells old.port.device address code left range device → device ≡ left
+  left_is address code left range device not_address not_next well tells = elim tells as (λ device tells. device ≡ left) [
     | Address is ↦ absurd (not_address is)
     | Round next is all acts ↦ absurd (not_next is)
-    | Number other further ↦ refl
+    | Refuses misreads ↦ absurd (well misreads)
+    | Number other further reads ↦ refl
   ]
 
   -- the log range keeps its length
@@ -109,10 +114,13 @@ module _ (addresses : Addresses) (old new : SpaceState) where
       → new.port.device.store.layout ≡ old.port.device.store.layout → length new.port.range ≡ length old.port.range
   same_range before after same = after ∙ ap (λ (l : Layout). reach_of (room_of l)) same ∙ sym before
 
-  pub machine_acts : (code : ℕ) → IsPort old.port → IsPort new.port → (code ≡ 0xD → ⊥) → (code ≡ 0x8 → ⊥) → Takes addresses old code new → ActsOn (Unit {0}) (machine_of old) code (machine_of new)
-  machine_acts code before after not_address not_next takes =
+  pub machine_acts : (code : ℕ) → IsPort old.port → IsPort new.port → SayThemselves (records old.port.device) → (code ≡ 0xD → ⊥) → (code ≡ 0x8 → ⊥)
+      → Takes addresses old code new → ActsOn (Unit {0}) (machine_of old) code (machine_of new)
+  machine_acts code before after reads not_address not_next takes =
       let acted = takes.acted in
-      let left = left_is addresses.range code acted.left new.port.range new.port.device not_address not_next acted.told in
+      let well : Misreads old.port.device code acted.left new.port.range → ⊥ =
+      λ misreads. none_misread old.port.device old.port.range code acted.left new.port.range reads acted.acts misreads in
+      let left = left_is addresses.range code acted.left new.port.range new.port.device not_address not_next well acted.told in
       record {
         acts = subst (λ (d : DeviceState). Acts (Unit {0}) old.port.device old.port.range (action_of code) d new.port.range) (sym left) acted.acts;
         effect = acted.effect;
@@ -127,7 +135,7 @@ module _ (addresses : Addresses) (old new : SpaceState) where
       → Goes addresses old (Write (Memory addresses.registers) B32 number answer) new → Allows (Unit {0}) (machine_of old) (Write (Memory 0x200000) B32 number answer) (machine_of new)
   action_written number code answer is not_address not_next goes =
       let taken = action_taken number answer goes in
-      (taken.0, machine_acts (number % 2 ^ 32) goes.before goes.after (λ e. not_address (sym is ∙ e)) (λ e. not_next (sym is ∙ e)) taken.1)
+      (taken.0, machine_acts (number % 2 ^ 32) goes.before goes.after goes.reads (λ e. not_address (sym is ∙ e)) (λ e. not_next (sym is ∙ e)) taken.1)
 
   pub action_served : (number : ℕ) (fault : SpaceFault) → Goes addresses old (Write (Memory addresses.registers) B32 number (Err fault)) new → ⊥
   action_served number fault goes = let is = (action_taken number (Err fault) goes).0 in absurd (cc is)

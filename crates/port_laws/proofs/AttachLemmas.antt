@@ -23,7 +23,7 @@ use Rattle.erst_commands.proofs.LimitLemmas.{reach-few, reach-least, timings-hal
 use Rattle.erst_port.specs.declared.windows.Addresses.{Addresses}
 use Rattle.erst_port.specs.PortState.{PortState, IsPort}
 use Rattle.erst_port.specs.PortTables.{port_entries, port_erst}
-use Rattle.erst_port.specs.Accesses.{Tells, Address, Round, Number, with_value}
+use Rattle.erst_port.specs.Accesses.{Tells, Address, Round, Refuses, Number, with_value}
 use Rattle.port_laws.specs.PortSpaces.{SpaceState, Goes, caught_up}
 use Rattle.port_laws.specs.PortClients.{port_client, telling, AttachesPort}
 use Rattle.port_laws.proofs.PlaceLemmas.{apart_says}
@@ -37,9 +37,10 @@ Shows n old mid = (mid.port.device ≡ record old.port.device { value = n }) × 
 
 module _ (addresses : Addresses) (old mid : SpaceState) where
   shows_number : (action : Action) (n : ℕ) → action_of (code_of action) ≡ Some action → (code_of action ≡ 0xD → ⊥) → (code_of action ≡ 0x8 → ⊥)
+      → (code_of action ≡ 0x6 → ⊥)
       → told_by action old.port.device.status old.port.device.store.layout ≡ Some n → Takes addresses old (code_of action) mid → Shows n old mid
-  shows_number action n code not_address not_next told takes =
-      let same = left_is addresses old mid addresses.range (code_of action) takes.acted.left mid.port.range mid.port.device not_address not_next takes.acted.told in
+  shows_number action n code not_address not_next not_poll told takes =
+      let same = left_is addresses old mid addresses.range (code_of action) takes.acted.left mid.port.range mid.port.device not_address not_next (λ misreads. not_poll misreads.polls) takes.acted.told in
       let acts = subst (λ (a : Option Action). Acts (Unit {0}) old.port.device old.port.range a takes.acted.left mid.port.range) code takes.acted.acts in
       let becomes = tells_number (Unit {0}) action n old.port.device old.port.range takes.acted.left mid.port.range told acts in
       (same ∙ becomes.new_is, becomes.range_is)
@@ -49,12 +50,13 @@ module _ (addresses : Addresses) (old mid : SpaceState) where
       let becomes = tells_number (Unit {0}) GetErrorLogAddressRange log_range_at old.port.device old.port.range takes.acted.left mid.port.range refl takes.acted.acts in
       (by_told mid.port.device becomes.new_is takes.acted.told, becomes.range_is)
     where
-      by_told : (device : DeviceState) → takes.acted.left ≡ record old.port.device { value = log_range_at } → Tells addresses.range 0xD takes.acted.left mid.port.range device
+      by_told : (device : DeviceState) → takes.acted.left ≡ record old.port.device { value = log_range_at } → Tells old.port.device addresses.range 0xD takes.acted.left mid.port.range device
           → device ≡ record old.port.device { value = addresses.range }
       by_told device left tells = elim tells as (λ device tells. device ≡ record old.port.device { value = addresses.range }) [
         | Address is ↦ ap (λ (d : DeviceState). record d { value = addresses.range }) left
         | Round new is all again ↦ absurd (omega (arith, is))
-        | Number other further ↦ absurd (other refl)
+        | Refuses misreads ↦ absurd (omega (arith, misreads.polls))
+        | Number other further well ↦ absurd (other refl)
       ]
 
   -- the port with nothing due then tells this number
@@ -170,13 +172,16 @@ attaches_port first port run enough attaches =
     let one = answered first addresses GetErrorLogAddressRange addresses.range first refl (λ mid takes. shows_address addresses first mid takes)
     (λ given budget result left last run. runs_address addresses first given budget result left last run) _ run.budget attaches.answers run.left run.last (omega (arith, enough)) asks in
     let two = answered first addresses GetErrorLogAddressRangeLength len (telling addresses.range first) refl
-    (λ mid takes. shows_number addresses (telling addresses.range first) mid GetErrorLogAddressRangeLength len refl (λ e. absurd (omega (arith, e))) (λ e. absurd (omega (arith, e))) refl takes)
+    (λ mid takes. shows_number addresses (telling addresses.range first) mid GetErrorLogAddressRangeLength len refl (λ e. absurd (omega (arith, e))) (λ e. absurd (omega (arith, e)))
+    (λ e. absurd (omega (arith, e))) refl takes)
     (λ given budget result left last run. runs_length addresses (telling addresses.range first) given budget result left last run) _ one.asked one.others run.left run.last (omega (arith, enough, one.spent)) one.more in
     let three = answered first addresses GetErrorLogAddressRangeAttributes 0 (telling len first) refl
-    (λ mid takes. shows_number addresses (telling len first) mid GetErrorLogAddressRangeAttributes 0 refl (λ e. absurd (omega (arith, e))) (λ e. absurd (omega (arith, e))) refl takes)
+    (λ mid takes. shows_number addresses (telling len first) mid GetErrorLogAddressRangeAttributes 0 refl (λ e. absurd (omega (arith, e))) (λ e. absurd (omega (arith, e)))
+    (λ e. absurd (omega (arith, e))) refl takes)
     (λ given budget result left last run. runs_attributes addresses (telling len first) given budget result left last run) _ two.asked two.others run.left run.last (omega (arith, enough, one.spent, two.spent)) two.more in
     let four = answered first addresses GetExecuteOperationTimings timings (telling 0 first) refl
-    (λ mid takes. shows_number addresses (telling 0 first) mid GetExecuteOperationTimings timings refl (λ e. absurd (omega (arith, e))) (λ e. absurd (omega (arith, e))) refl takes)
+    (λ mid takes. shows_number addresses (telling 0 first) mid GetExecuteOperationTimings timings refl (λ e. absurd (omega (arith, e))) (λ e. absurd (omega (arith, e)))
+    (λ e. absurd (omega (arith, e))) refl takes)
     (λ given budget result left last run. runs_timings addresses (telling 0 first) given budget result left last run) _ three.asked three.others run.left run.last (omega (arith, enough, one.spent, two.spent, three.spent)) three.more in
     let end = none_asked (Goes addresses) (port_entries addresses.registers) four.asked (telling timings first) four.others run.left run.last four.more in
     let answers = all_answers (addresses.range % 2 ^ 64) (len % 2 ^ 64) 0 (timings % 2 ^ 64) attaches.answers one.others two.others three.others four.others one.answers_are two.answers_are three.answers_are four.answers_are end.result_is in

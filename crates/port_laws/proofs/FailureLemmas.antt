@@ -21,7 +21,7 @@ use Rattle.erst_port.specs.declared.windows.Location.{Location}
 use Rattle.erst_port.specs.declared.windows.Location.TheVariants.{Action as ActionRegister, Value, LowHalf, HighHalf, Bytes, Nowhere}
 use Rattle.erst_port.specs.Places.{range_location, location_of}
 use Rattle.erst_port.specs.PortState.{PortState, flash_of}
-use Rattle.erst_port.specs.Accesses.{ActsOn, Tells, Address, Round, Number, NumberWritten, bytes_stored}
+use Rattle.erst_port.specs.Accesses.{ActsOn, Tells, Address, Round, Refuses, Number, NumberWritten, bytes_stored}
 use Rattle.erst_port.specs.Changes.{NotesMade}
 use Rattle.erst_port.specs.Failures.{ended_with, Fails, HasFailed}
 use Rattle.port_laws.specs.Beginnings.{Begins}
@@ -139,16 +139,19 @@ acted_failed old range action new after failed none_begins Ignores = failed
 no_begin : IsBegin (Some GetRecordIdentifier) → ⊥
 no_begin is = let both : None ≡ Some is.0 = is.1 in absurd (let h = both in cc)
 
-told_failed : (address code : ℕ) (left : DeviceState) (range : List ℕ) (new : DeviceState) → HasFailed left → Tells address code left range new → HasFailed new
-told_failed address code left range new failed (Address is) = failed_alike left _ failed failed.still.no_read failed.still.no_change failed.none_begun refl
-told_failed address code left range new failed (Round done is none acts) = acted_failed left range (Some GetRecordIdentifier) done range failed no_begin acts
-told_failed address code left range new failed (Number other still) = failed
+told_failed : (old : DeviceState) (address code : ℕ) (left : DeviceState) (range : List ℕ) (new : DeviceState) → HasFailed left
+    → Tells old address code left range new → HasFailed new
+told_failed old address code left range new failed (Address is) = failed_alike left _ failed failed.still.no_read failed.still.no_change failed.none_begun refl
+told_failed old address code left range new failed (Round done is none acts) = acted_failed left range (Some GetRecordIdentifier) done range failed no_begin acts
+told_failed old address code left range new failed (Refuses misreads) =
+    failed_alike left _ failed failed.still.no_read failed.still.no_change failed.none_begun (sym failed.status_is)
+told_failed old address code left range new failed (Number other still well) = failed
 
 acts_failed : (old : PortState) (code : ℕ) (new : PortState) → HasFailed old.device → (IsBegin (action_of code) → ⊥) → ActsOn old code new → HasFailed new.device
 acts_failed old code new failed none_begins acts =
     let acted = acts.acted in
     let left = acted_failed old.device old.range (action_of code) acted.left new.range failed none_begins acted.acts in
-    told_failed old.addresses.range code acted.left new.range new.device left acted.told
+    told_failed old.device old.addresses.range code acted.left new.range new.device left acted.told
 
 by_device : (old new same : PortState) → new ≡ same → HasFailed same.device → HasFailed new.device
 by_device old new same is failed = subst (λ (p : PortState). HasFailed p.device) (sym is) failed
@@ -194,13 +197,15 @@ status_told old range new after (BeginsOne one operation begun) = absurd (let bo
 status_told old range new after (Waits one waits running) = absurd (let no : false ≡ true = waits in cc)
 status_told old range new after (TellsNumber one number told) = let both : Some (number_of old.status) ≡ Some number = told in cc
 
-told_as_left : (address : ℕ) (left : DeviceState) (range : List ℕ) (new : DeviceState) → Tells address (code_of GetCommandStatus) left range new → new.value ≡ left.value
-told_as_left address left range new (Address is) = absurd (let wrong : 7 ≡ 13 = is in omega arith)
-told_as_left address left range new (Round done is none acts) = absurd (let wrong : 7 ≡ 8 = is in omega arith)
-told_as_left address left range new (Number other still) = refl
+told_as_left : (old : DeviceState) (address : ℕ) (left : DeviceState) (range : List ℕ) (new : DeviceState)
+    → Tells old address (code_of GetCommandStatus) left range new → new.value ≡ left.value
+told_as_left old address left range new (Address is) = absurd (let wrong : 7 ≡ 13 = is in omega arith)
+told_as_left old address left range new (Round done is none acts) = absurd (let wrong : 7 ≡ 8 = is in omega arith)
+told_as_left old address left range new (Refuses misreads) = refl
+told_as_left old address left range new (Number other still well) = refl
 
 pub failure_told : (old new : PortState) → HasFailed old.device → ActsOn old (code_of GetCommandStatus) new → new.device.value ≡ 3
 failure_told old new failed acts =
     let acted = acts.acted in
-    told_as_left old.addresses.range acted.left new.range new.device acted.told
+    told_as_left old.device old.addresses.range acted.left new.range new.device acted.told
     ∙ status_told old.device old.range acted.left new.range acted.acts ∙ ap number_of failed.status_is

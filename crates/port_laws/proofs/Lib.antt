@@ -12,6 +12,7 @@ pub mod FailureLemmas
 pub mod CarryLemmas
 pub mod SequenceLemmas
 pub mod PlaceLemmas
+pub mod ReadLemmas
 pub mod AccessLemmas
 pub mod ProgramLemmas
 pub mod MachineLemmas

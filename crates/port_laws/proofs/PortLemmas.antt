@@ -9,10 +9,13 @@ use Rattle.record_model.specs.RecordMap.{IsNextAbove}
 use Rattle.record_store.specs.Store.{StoreView, Pending, Idle, stored, doubted}
 use Rattle.record_store.specs.declared.errors.StoreError.{StoreError}
 use Rattle.erst_entries.specs.Actions.{action_of, code_of}
-use Rattle.erst_entries.specs.declared.actions.Action.TheVariants.{GetErrorLogAddressRange, GetRecordIdentifier}
-use Rattle.erst_device.specs.declared.status.CommandStatus.TheVariants.{Success}
+use Rattle.erst_entries.specs.declared.actions.Action.TheVariants.{CheckBusyStatus, GetErrorLogAddressRange, GetRecordIdentifier}
+use Rattle.erst_device.specs.declared.status.CommandStatus.TheVariants.{Success, Failed}
 use Rattle.erst_device.specs.DeviceState.{DeviceState, given_up}
 use Rattle.erst_device.specs.StoreCalls.{FoundNext}
+use Rattle.erst_device.specs.Drafts.{draft_at}
+use Rattle.erst_device.specs.Starts.{HasLength}
+use Rattle.erst_port.specs.Reads.{Misreads}
 use Rattle.erst_device.specs.Actions.{Acts, found}
 use Rattle.erst_commands.specs.Equivalence.{DeviceOutline, StoreOutline, device_outline, store_outline, unplaced, FailsNothing}
 use Rattle.erst_commands.proofs.StoreOutlines.{only_looked, answers_ok}
@@ -23,7 +26,7 @@ use Rattle.erst_port.specs.declared.windows.Addresses.{Addresses}
 use Rattle.erst_port.specs.declared.windows.Location.{Location}
 use Rattle.erst_port.specs.declared.windows.Location.TheVariants.{Action, Value, LowHalf, HighHalf, Bytes, Nowhere}
 use Rattle.erst_port.specs.PortState.{PortState, IsMade}
-use Rattle.erst_port.specs.Accesses.{number_read, Tells, Address, Round, Number, Acted, ActsOn, ActionWritten, NumberWritten, with_value, with_bytes, bytes_read, bytes_stored, ResetsOn, reset_answer, Resets}
+use Rattle.erst_port.specs.Accesses.{number_read, Tells, Address, Round, Refuses, Number, Acted, ActsOn, ActionWritten, NumberWritten, with_value, with_bytes, bytes_read, bytes_stored, ResetsOn, reset_answer, Resets}
 use Rattle.erst_port.specs.Saved.{signature, head_size, saved_head, IsSaved}
 use Rattle.erst_port.specs.Loaded.{AreOfDevice, AreOfLayout, GoesOn}
 use Rattle.erst_port.proofs.SavedLemmas.{length-saved_head, HasNumbers, has_numbers}
@@ -131,32 +134,57 @@ next_told_bare : (next : Option ℕ) (o : DeviceOutline) → bare (next_told nex
 next_told_bare (Some id) o = refl
 next_told_bare None o = refl
 
-data ToldBy (address code : ℕ) (left : DeviceOutline) : DeviceOutline → Type 0 where
-  ByAddress : code ≡ code_of GetErrorLogAddressRange → ToldBy address code left (record left { value = address })
-  ByRound : (next : Option ℕ) → code ≡ code_of GetRecordIdentifier → left.value ≡ 2 ^ 64 - 1 → IsNextAbove 0 left.store.records next → ToldBy address code left (next_told next left)
-  ByNumber : code ≢ code_of GetErrorLogAddressRange → (code ≡ code_of GetRecordIdentifier → left.value ≢ 2 ^ 64 - 1) → ToldBy address code left left
+-- a read of a record that is none, by outlines
+record Misread (old : DeviceOutline) (code : ℕ) (left : DeviceOutline) (range : List ℕ) : Type 0 where
+  polls : code ≡ code_of CheckBusyStatus
+  id : ℕ
+  size : ℕ
+  reading : old.reading ≡ Some id
+  held : HasLength old.store.records id size
+  done : left.status ≡ Success
+  differs : draft_at left.offset range ≢ Some (size, id)
+
+misread_alike : (code : ℕ) (one other left also : DeviceOutline) (range : List ℕ) → bare one ≡ bare other → bare left ≡ bare also
+    → Misread one code left range → Misread other code also range
+misread_alike code one other left also range before after misread = record {
+  polls = misread.polls;
+  id = misread.id;
+  size = misread.size;
+  reading = sym (ap (λ (o : DeviceOutline). o.reading) before) ∙ misread.reading;
+  held = subst (λ (map : Stored). HasLength map misread.id misread.size) (ap (λ (o : DeviceOutline). o.store.records) before) misread.held;
+  done = sym (ap (λ (o : DeviceOutline). o.status) after) ∙ misread.done;
+  differs = λ same. misread.differs (ap (λ (o : DeviceOutline). draft_at o.offset range) after ∙ same);
+}
+
+data ToldBy (old : DeviceOutline) (range : List ℕ) (address code : ℕ) (left : DeviceOutline) : DeviceOutline → Type 0 where
+  ByAddress : code ≡ code_of GetErrorLogAddressRange → ToldBy old range address code left (record left { value = address })
+  ByRound : (next : Option ℕ) → code ≡ code_of GetRecordIdentifier → left.value ≡ 2 ^ 64 - 1 → IsNextAbove 0 left.store.records next
+      → ToldBy old range address code left (next_told next left)
+  ByRefusal : Misread old code left range → ToldBy old range address code left (record left { status = Failed })
+  ByNumber : code ≢ code_of GetErrorLogAddressRange → (code ≡ code_of GetRecordIdentifier → left.value ≢ 2 ^ 64 - 1)
+      → (Misread old code left range → ⊥) → ToldBy old range address code left left
 
 -- an action, its outline, and what is made of its number
 record Split (old : DeviceState) (range : List ℕ) (address code : ℕ) (new : DeviceState) (after : List ℕ) : Type 0 where
   left : DeviceState
   acts : Acts (Unit {0}) old range (action_of code) left after
   quiet : FailsNothing old.store left.store
-  told : ToldBy address code (device_outline left) (device_outline new)
+  told : ToldBy (device_outline old) after address code (device_outline left) (device_outline new)
 
-told_round : (address code : ℕ) (left new : DeviceState) (store : StoreView) (result : Result (Option ℕ) StoreError) → code ≡ code_of GetRecordIdentifier → left.value ≡ 2 ^ 64 - 1
+told_round : (old : DeviceOutline) (range : List ℕ) (address code : ℕ) (left new : DeviceState) (store : StoreView) (result : Result (Option ℕ) StoreError) → code ≡ code_of GetRecordIdentifier → left.value ≡ 2 ^ 64 - 1
     → FoundNext (Unit {0}) (given_up left).store store left.cursor result → new ≡ found result store (given_up left) → left.cursor ≡ 0 → new.store ≡ left.store → new.value ≢ 0
-    → ToldBy address code (device_outline left) (device_outline new)
-told_round address code left new store (Ok (Some id)) is all look new_is first same some =
+    → ToldBy old range address code (device_outline left) (device_outline new)
+told_round old range address code left new store (Ok (Some id)) is all look new_is first same some =
     let store_is : store ≡ left.store = sym (ap (λ (d : DeviceState). d.store) new_is) ∙ same in
     let outline : device_outline new ≡ next_told (Some id) (device_outline left) =
     ap device_outline new_is ∙ ap (λ (s : StoreView). record (device_outline left) { value = id; cursor = id; reading = None; store = store_outline s }) store_is in
-    subst (ToldBy address code (device_outline left)) (sym outline) (ByRound (Some id) is all (subst (λ (n : ℕ). IsNextAbove n (stored left.store) (Some id)) first (look.answer tt)))
-told_round address code left new store (Ok None) is all look new_is first same some =
+    subst (ToldBy old range address code (device_outline left)) (sym outline) (ByRound (Some id) is all (subst (λ (n : ℕ). IsNextAbove n (stored left.store) (Some id)) first (look.answer tt)))
+told_round old range address code left new store (Ok None) is all look new_is first same some =
     let store_is : store ≡ left.store = sym (ap (λ (d : DeviceState). d.store) new_is) ∙ same in
     let outline : device_outline new ≡ next_told None (device_outline left) =
     ap device_outline new_is ∙ ap (λ (s : StoreView). record (device_outline left) { value = 2 ^ 64 - 1; cursor = 0; reading = None; store = store_outline s }) store_is in
-    subst (ToldBy address code (device_outline left)) (sym outline) (ByRound None is all (subst (λ (n : ℕ). IsNextAbove n (stored left.store) None) first (look.answer tt)))
-told_round address code left new store (Err error) is all look new_is first same some = absurd (some (ap (λ (d : DeviceState). d.value) new_is))
+    subst (ToldBy old range address code (device_outline left)) (sym outline) (ByRound None is all (subst (λ (n : ℕ). IsNextAbove n (stored left.store) None) first (look.answer tt)))
+told_round old range address code left new store (Err error) is all look new_is first same some = absurd (some (ap (λ (d : DeviceState). d.value) new_is))
 
 rounded : (old : DeviceState) (range : List ℕ) (address code : ℕ) (left : DeviceState) (after : List ℕ) (new : DeviceState) → Acts (Unit {0}) old range (action_of code) left after
     → code ≡ code_of GetRecordIdentifier → left.value ≡ 2 ^ 64 - 1 → Acts (Unit {0}) left after (Some GetRecordIdentifier) new after → FailsNothing old.store new.store → Split old range address code new after
@@ -168,28 +196,66 @@ rounded old range address code left after new acts is all again quiet =
       left = left;
       acts = acts;
       quiet = subst (λ (s : StoreView). FailsNothing old.store s) next.store quiet;
-      told = told_round address code left new repeats.store repeats.result is all repeats.look repeats.new_is ends.cursor next.store next.some;
+      told = told_round (device_outline old) after address code left new repeats.store repeats.result is all repeats.look repeats.new_is ends.cursor next.store next.some;
     }
 
+misread : (old : DeviceState) (code : ℕ) (left : DeviceState) (range : List ℕ) → Misreads old code left range
+    → Misread (device_outline old) code (device_outline left) range
+misread old code left range is = record {
+  polls = is.polls;
+  id = is.id;
+  size = is.size;
+  reading = is.reading;
+  held = is.held;
+  done = is.done;
+  differs = is.differs;
+}
+
+misreads : (old : DeviceState) (code : ℕ) (left : DeviceState) (range : List ℕ) → Misread (device_outline old) code (device_outline left) range
+    → Misreads old code left range
+misreads old code left range is = record {
+  polls = is.polls;
+  id = is.id;
+  size = is.size;
+  reading = is.reading;
+  held = is.held;
+  done = is.done;
+  differs = is.differs;
+}
+
 split : (old : DeviceState) (range : List ℕ) (address code : ℕ) (left : DeviceState) (after : List ℕ) (new : DeviceState) → Acts (Unit {0}) old range (action_of code) left after
-    → Tells address code left after new → FailsNothing old.store new.store → Split old range address code new after
+    → Tells old address code left after new → FailsNothing old.store new.store → Split old range address code new after
 split old range address code left after new acts told = elim told as (λ new told. FailsNothing old.store new.store → Split old range address code new after) [
   | Address is ↦ λ quiet. record { left = left; acts = acts; quiet = quiet; told = ByAddress is }
   | Round new is all again ↦ λ quiet. rounded old range address code left after new acts is all again quiet
-  | Number tells looks ↦ λ quiet. record { left = left; acts = acts; quiet = quiet; told = ByNumber tells looks }
+  | Refuses misreads ↦ λ quiet. record { left = left; acts = acts; quiet = quiet; told = ByRefusal (misread old code left after misreads) }
+  | Number tells looks well ↦ λ quiet. record {
+      left = left;
+      acts = acts;
+      quiet = quiet;
+      told = ByNumber tells looks (λ misread. well (misreads old code left after misread));
+    }
 ]
 
 other_code : (code : ℕ) → code ≡ code_of GetErrorLogAddressRange → code ≡ code_of GetRecordIdentifier → ⊥
 other_code code is also = omega (arith, is, also)
 
-told_alike : (address code : ℕ) (one other one_new other_new : DeviceOutline) → bare one ≡ bare other → ToldBy address code one one_new → ToldBy address code other other_new → bare one_new ≡ bare other_new
-told_alike address code one other one_new other_new equivalent first later =
+no_round : (code : ℕ) → code ≡ code_of CheckBusyStatus → code ≡ code_of GetRecordIdentifier → ⊥
+no_round code is also = omega (arith, is, also)
+
+no_address : (code : ℕ) → code ≡ code_of CheckBusyStatus → code ≡ code_of GetErrorLogAddressRange → ⊥
+no_address code is also = omega (arith, is, also)
+
+told_alike : (one_old other_old : DeviceOutline) (range : List ℕ) (address code : ℕ) (one other one_new other_new : DeviceOutline) → bare one_old ≡ bare other_old
+    → bare one ≡ bare other → ToldBy one_old range address code one one_new → ToldBy other_old range address code other other_new → bare one_new ≡ bare other_new
+told_alike one_old other_old range address code one other one_new other_new before equivalent first later =
     let value : one.value ≡ other.value = ap (λ (o : DeviceOutline). o.value) equivalent in
     elim first as (λ one_new first. bare one_new ≡ bare other_new) [
       | ByAddress is ↦ elim later as (λ other_new later. bare (record one { value = address }) ≡ bare other_new) [
         | ByAddress also ↦ ap (λ (o : DeviceOutline). record o { value = address }) equivalent
         | ByRound next also all least ↦ absurd (other_code code is also)
-        | ByNumber tells looks ↦ absurd (tells is)
+        | ByRefusal misread ↦ absurd (no_address code misread.polls is)
+        | ByNumber tells looks well ↦ absurd (tells is)
       ]
       | ByRound next is all least ↦ elim later as (λ other_new later. bare (next_told next one) ≡ bare other_new) [
         | ByAddress also ↦ absurd (other_code code also is)
@@ -197,12 +263,20 @@ told_alike address code one other one_new other_new equivalent first later =
             let records : one.store.records ≡ other.store.records = ap (λ (o : DeviceOutline). o.store.records) equivalent in
             let same : next ≡ found = found_once (Some 0) one.store.records next found least (subst (λ (map : Stored). IsNextAbove 0 map found) (sym records) least_found) in
             next_told_bare next one ∙ ap (λ (n : Option ℕ). next_told n (bare one)) same ∙ ap (next_told found) equivalent ∙ sym (next_told_bare found other)
-        | ByNumber tells looks ↦ absurd (looks is (sym value ∙ all))
+        | ByRefusal misread ↦ absurd (no_round code misread.polls is)
+        | ByNumber tells looks well ↦ absurd (looks is (sym value ∙ all))
       ]
-      | ByNumber tells looks ↦ elim later as (λ other_new later. bare one ≡ bare other_new) [
+      | ByRefusal misread ↦ elim later as (λ other_new later. bare (record one { status = Failed }) ≡ bare other_new) [
+        | ByAddress also ↦ absurd (no_address code misread.polls also)
+        | ByRound found also all least ↦ absurd (no_round code misread.polls also)
+        | ByRefusal also ↦ ap (λ (o : DeviceOutline). record o { status = Failed }) equivalent
+        | ByNumber tells looks well ↦ absurd (well (misread_alike code one_old other_old one other range before equivalent misread))
+      ]
+      | ByNumber tells looks well ↦ elim later as (λ other_new later. bare one ≡ bare other_new) [
         | ByAddress also ↦ absurd (tells also)
         | ByRound found also all least ↦ absurd (looks also (value ∙ all))
-        | ByNumber none other_looks ↦ equivalent
+        | ByRefusal misread ↦ absurd (well (misread_alike code other_old one_old other one range (sym before) (sym equivalent) misread))
+        | ByNumber none other_looks other_well ↦ equivalent
       ]
     ]
 
@@ -218,7 +292,12 @@ acted_alike one other range address code one_after one_range other_after other_r
     let both = became_alike (action_of code) (device_outline one) (device_outline other) range (device_outline a.left) one_range (device_outline b.left) other_range equivalent
     (became (Unit {0}) tt one range (action_of code) a.left one_range a.acts first.copies a.quiet)
     (became (Unit {0}) tt other range (action_of code) b.left other_range b.acts later.copies b.quiet) in
-    (told_alike address code (device_outline a.left) (device_outline b.left) (device_outline one_after) (device_outline other_after) both.0 a.told b.told, both.1)
+    let also = subst (λ (r : List ℕ). ToldBy (device_outline other) r address code (device_outline b.left) (device_outline other_after)) (sym both.1) b.told in
+    (
+      told_alike (device_outline one) (device_outline other) one_range address code (device_outline a.left) (device_outline b.left) (device_outline one_after)
+      (device_outline other_after) equivalent both.0 a.told also,
+      both.1,
+    )
 
 acts_on_alike : (one other : PortState) (code : ℕ) (one_after other_after : PortState) → EquivalentPorts one other → ActsOn one code one_after → FailedNothing one one_after
     → ActsOn other code other_after → FailedNothing other other_after → EquivalentPorts one_after other_after

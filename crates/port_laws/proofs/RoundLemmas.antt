@@ -23,7 +23,7 @@ use Rattle.erst_commands.specs.Looks.{HasAsked, AsksOnce, Answers, StopsBehind a
 use Rattle.erst_commands.proofs.LookLemmas.{has_asked, has_failed}
 use Rattle.erst_port.specs.declared.windows.Addresses.{Addresses}
 use Rattle.erst_port.specs.PortTables.{port_entries}
-use Rattle.erst_port.specs.Accesses.{Tells, Address, Round, Number}
+use Rattle.erst_port.specs.Accesses.{Tells, Address, Round, Refuses, Number}
 use Rattle.erst_port.proofs.LookLemmas.{Looked, looked, IsBehind, behind, IsSecond, second}
 use Rattle.port_laws.specs.PortSpaces.{SpaceState, Goes, caught_up}
 use Rattle.port_laws.specs.Machines.{machine_of}
@@ -110,7 +110,7 @@ next_told addresses first mid last takes same =
         ap (λ (range : List ℕ). machine_of (record { port = record mid.port { range = range }; waited = mid.waited })) looks.range_is
         ∙ ap (λ (n : ℕ). machine_of (record { port = record mid.port { range = first.port.range }; waited = n })) takes.waited
 
-    by_told : (device : DeviceState) → Tells addresses.range 0x8 takes.acted.left mid.port.range device → mid.port.device ≡ device → NextRound (machine_of first) (machine_of mid) (named (Ok (mid.port.device.value % 2 ^ 64)))
+    by_told : (device : DeviceState) → Tells first.port.device addresses.range 0x8 takes.acted.left mid.port.range device → mid.port.device ≡ device → NextRound (machine_of first) (machine_of mid) (named (Ok (mid.port.device.value % 2 ^ 64)))
     by_told device tells = elim tells as (λ device tells. mid.port.device ≡ device → NextRound (machine_of first) (machine_of mid) (named (Ok (mid.port.device.value % 2 ^ 64)))) [
       | Address is ↦ λ new_is. absurd (omega (arith, is))
       | Round new is all again ↦ λ new_is.
@@ -120,7 +120,8 @@ next_told addresses first mid last takes same =
           let asked = asked_first (machine_of first) (machine_of mid) elsewhere takes.acted.left first.port.range mid.port.range looks all (ap (λ (d : DeviceState). d.store) new_is ∙ more.store) in
           by_second (machine_of first) (machine_of mid) elsewhere asked.0 ends.none takes.acted.left repeats.store repeats.result asked.1 ends.cursor repeats.look repeats.allowed (new_is ∙ repeats.new_is)
           (λ none. more.some (sym (ap (λ (d : DeviceState). d.value) new_is) ∙ none))
-      | Number other further ↦ λ new_is.
+      | Refuses misreads ↦ λ new_is. absurd (omega (arith, misreads.polls))
+      | Number other further well ↦ λ new_is.
           by_first (machine_of first) (machine_of mid) elsewhere looks.store looks.result looks.look looks.allowed (new_is ∙ looks.new_is) (λ all. further refl (sym (ap (λ (d : DeviceState). d.value) new_is) ∙ all))
     ]
 

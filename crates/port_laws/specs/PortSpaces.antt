@@ -19,6 +19,8 @@ use Rattle.erst_port.specs.declared.windows.Window.TheVariants.{Registers, LogRa
 use Rattle.erst_port.specs.Places.{registers_size, range_location, location_of}
 use Rattle.erst_port.specs.Parts.{all_made}
 use Rattle.erst_port.specs.PortState.{PortState, IsPort, flash_of}
+use Rattle.erst_device.specs.DeviceState.{records}
+use Rattle.erst_port.specs.Reads.{SayThemselves}
 use Rattle.erst_port.specs.Accesses.{number_read, NumberWritten, bytes_read, bytes_stored}
 
 -- a port, and how long the operating system waited, in microseconds
@@ -85,9 +87,11 @@ Does old (WriteBytes at bytes answer) new =
 abbrev pub caught_up : SpaceState → SpaceState
 caught_up state = record state { port = record state.port { made = all_made (flash_of state.port).steps } }
 
--- an access of a port whose windows stand at these addresses. Its caller has the medium make what is due before it passes the access on
+-- an access of a port whose windows stand at these addresses. Its caller has the medium make what is due before it passes the access on. The
+-- records say themselves, as those that were written do
 pub record Goes (addresses : Addresses) (old : SpaceState) (call : Call) (new : SpaceState) : Type 0 where
   pub before : IsPort old.port
   pub there : old.port.addresses ≡ addresses
+  pub reads : SayThemselves (records old.port.device)
   pub does : Does (caught_up old) call new
   pub after : IsPort new.port
