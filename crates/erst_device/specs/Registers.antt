@@ -66,7 +66,9 @@ abbrev pub FindsRecord : Type 0 → Stored → ℕ → Option (ℕ × ℕ) → T
 FindsRecord tells stored id None = tells → get stored id ≡ None
 FindsRecord tells stored id (Some record_found) = (record_found.0 ≡ id) × (is_reserved id ≡ false) × (tells → HasLength stored id record_found.1)
 
--- the length and the identifier of the record that the read that runs shows: none where no read runs
+-- the length and the identifier of the record that the read that runs shows, within the log range: none where no read runs
 abbrev pub ReadingIs : DeviceState → Option (ℕ × ℕ) → Type 0
 ReadingIs state None = state.reading ≡ None
-ReadingIs state (Some header) = (state.reading ≡ Some header.1) × (is_reserved header.1 ≡ false) × HasLength (records state) header.1 header.0
+ReadingIs state (Some header) =
+    (state.reading ≡ Some header.1) × (is_reserved header.1 ≡ false) × HasLength (records state) header.1 header.0
+    × (state.offset + header.0 ≤ reach_of (room_of state.store.layout))

@@ -38,7 +38,7 @@ header_once old code left range header reads misreads =
     let both : Some header.1 ≡ Some misreads.id = sym reads.0 ∙ misreads.reading in
     let id : header.1 ≡ misreads.id = cc in
     let size : header.0 ≡ misreads.size =
-    length_once (records old) misreads.id header.0 misreads.size (subst (λ (n : ℕ). HasLength (records old) n header.0) id reads.2) misreads.held in
+    length_once (records old) misreads.id header.0 misreads.size (subst (λ (n : ℕ). HasLength (records old) n header.0) id reads.2.0) misreads.held in
     ap (λ (n : ℕ). Some (n, header.1)) size ∙ ap (λ (n : ℕ). Some (misreads.size, n)) id
 
 module _ (old : DeviceState) (range : List ℕ) (address code : ℕ) (left : DeviceState) (after : List ℕ)
@@ -126,7 +126,8 @@ module _ (old : DeviceState) (range : List ℕ) (address code : ℕ) (left : Dev
         id = header.1;
         size = header.0;
         reading = reads.0;
-        held = reads.2;
+        held = reads.2.0;
+        within = reads.2.1;
         done = refused.0;
         differs = refused.1;
       } in

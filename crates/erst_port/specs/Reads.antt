@@ -1,6 +1,7 @@
 -- A read of a record that is none: its header does not say the length and the identifier by which it is stored.
-use Rattle.std.specs.Prelude.{◌≡◌, ◌≢◌, ℕ, ◌⊎◌, List, length, Option, Some, None}
+use Rattle.std.specs.Prelude.{◌≡◌, ◌≢◌, ℕ, ◌+◌, ◌≤◌, ◌⊎◌, List, length, Option, Some, None}
 use Rattle.std.specs.FinMap.{get}
+use Rattle.base_model.specs.Layout.{room_of, reach_of}
 use Rattle.record_model.specs.Records.{Stored}
 use Rattle.erst_entries.specs.Actions.{code_of}
 use Rattle.erst_entries.specs.declared.actions.Action.TheVariants.{CheckBusyStatus}
@@ -23,6 +24,7 @@ pub record Misreads (old : DeviceState) (code : ℕ) (left : DeviceState) (range
   pub size : ℕ
   pub reading : old.reading ≡ Some id
   pub held : HasLength (records old) id size
+  pub within : old.offset + size ≤ reach_of (room_of old.store.layout)
   pub done : left.status ≡ Success
   pub differs : draft_at left.offset range ≢ Some (size, id)
 

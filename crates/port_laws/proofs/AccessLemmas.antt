@@ -119,7 +119,7 @@ module _ (addresses : Addresses) (old new : SpaceState) where
   machine_acts code before after reads not_address not_next takes =
       let acted = takes.acted in
       let well : Misreads old.port.device code acted.left new.port.range → ⊥ =
-      λ misreads. none_misread old.port.device old.port.range code acted.left new.port.range reads acted.acts misreads in
+      λ misreads. none_misread old.port.device old.port.range code acted.left new.port.range before.range reads acted.acts misreads in
       let left = left_is addresses.range code acted.left new.port.range new.port.device not_address not_next well acted.told in
       record {
         acts = subst (λ (d : DeviceState). Acts (Unit {0}) old.port.device old.port.range (action_of code) d new.port.range) (sym left) acted.acts;

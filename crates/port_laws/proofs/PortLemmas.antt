@@ -1,5 +1,5 @@
 -- What two ports that are equivalent do.
-use Rattle.std.proofs.Common.{◌≡◌, ◌≢◌, ℕ, ◌+◌, ◌-◌, ◌*◌, ◌/◌, ◌%◌, ◌^◌, inl, inr, false, List, length, Option, Some, None, Result, Ok, Err, refl, sym, ap, subst, ◌∙◌, arith, ◌++◌, length-append}
+use Rattle.std.proofs.Common.{◌≡◌, ◌≢◌, ℕ, ◌+◌, ◌≤◌, ◌-◌, ◌*◌, ◌/◌, ◌%◌, ◌^◌, inl, inr, false, List, length, Option, Some, None, Result, Ok, Err, refl, sym, ap, subst, ◌∙◌, arith, ◌++◌, length-append}
 use Rattle.base_model.specs.Bytes.{spelled, part, number_at, put_at}
 use Rattle.apei_tables.specs.declared.widths.Width.{Width}
 use Rattle.apei_tables.specs.Access.{bits}
@@ -141,6 +141,7 @@ record Misread (old : DeviceOutline) (code : ℕ) (left : DeviceOutline) (range 
   size : ℕ
   reading : old.reading ≡ Some id
   held : HasLength old.store.records id size
+  within : old.offset + size ≤ reach_of (room_of old.store.layout)
   done : left.status ≡ Success
   differs : draft_at left.offset range ≢ Some (size, id)
 
@@ -152,6 +153,7 @@ misread_alike code one other left also range before after misread = record {
   size = misread.size;
   reading = sym (ap (λ (o : DeviceOutline). o.reading) before) ∙ misread.reading;
   held = subst (λ (map : Stored). HasLength map misread.id misread.size) (ap (λ (o : DeviceOutline). o.store.records) before) misread.held;
+  within = subst (λ (o : DeviceOutline). o.offset + misread.size ≤ reach_of (room_of o.store.layout)) before misread.within;
   done = sym (ap (λ (o : DeviceOutline). o.status) after) ∙ misread.done;
   differs = λ same. misread.differs (ap (λ (o : DeviceOutline). draft_at o.offset range) after ∙ same);
 }
@@ -207,6 +209,7 @@ misread old code left range is = record {
   size = is.size;
   reading = is.reading;
   held = is.held;
+  within = is.within;
   done = is.done;
   differs = is.differs;
 }
@@ -219,6 +222,7 @@ misreads old code left range is = record {
   size = is.size;
   reading = is.reading;
   held = is.held;
+  within = is.within;
   done = is.done;
   differs = is.differs;
 }
