@@ -1,20 +1,16 @@
 -- What a command line asks for.
-use Rattle.std.specs.Prelude.{◌≡◌, Bool, true, false, List, [], Option, Some, None, String, codes, if◌then◌else◌, map, option_map, string_bytes}
-use Rattle.std.specs.Option.{option_map_or}
+use Rattle.std.specs.Prelude.{◌≡◌, Bool, true, false, List, [], Option, Some, None, String, codes, if◌then◌else◌, map, string_bytes}
 use Rattle.std.specs.Str.{bytes_eq}
 use Rattle.std.specs.declared.alloc.Global.{Global}
 use Rattle.std.specs.declared.vec.Vec.{Vec}
 use Rattle.clap.specs.Words.{Row, Text, all_of, fault_of, first_of, matches_of}
+use Rattle.clap_words.specs.Values.{IsChoice, IsPath, is_set}
 use Rattle.apei_show.specs.Commands.{the_command}
 use Rattle.apei_show.specs.declared.options.Options.{Options}
 use Rattle.apei_show.specs.declared.options.Form.{Form}
 use Rattle.apei_show.specs.declared.options.Form.TheVariants.{Text as TheText, Brief, Json}
 use Rattle.apei_show.specs.declared.options.Color.{Color}
 use Rattle.apei_show.specs.declared.options.Color.TheVariants.{Auto, Always, Never}
-
--- a flag was given: clap keeps the text "true" of it
-abbrev pub is_set : Text → List Row → Bool
-is_set name rows = option_map_or (λ text. bytes_eq text (codes "true")) (first_of name rows) false
 
 -- the paths, of which there is at least one
 abbrev pub AreFiles : Option (List Text) → Vec (String Global) Global → Type 0
@@ -35,22 +31,13 @@ color_of word =
     else if bytes_eq word (codes "never") then Some Never
     else None
 
--- on a terminal, where nothing else is asked for
-abbrev pub IsColor : Option Text → Color → Type 0
-IsColor None color = color ≡ Auto
-IsColor (Some word) color = color_of word ≡ Some color
-
--- a path, where it is given
-abbrev pub IsPath : Option Text → Option (String Global) → Type 0
-IsPath word path = option_map string_bytes path ≡ word
-
 -- what the flags, the options and the paths are
 pub record AreOptionsIn (rows : List Row) (options : Options) : Type 0 where
   pub files : AreFiles (all_of (codes "files") rows) options.files
   pub form : IsForm (is_set (codes "json") rows) (is_set (codes "brief") rows) options.form
   pub bytes : options.bytes ≡ is_set (codes "bytes") rows
   pub strict : options.strict ≡ is_set (codes "strict") rows
-  pub color : IsColor (first_of (codes "color") rows) options.color
+  pub color : IsChoice color_of (Some Auto) (first_of (codes "color") rows) options.color
   pub smbios : IsPath (first_of (codes "smbios") rows) options.smbios
 
 -- clap finds no fault in the words, and the options are what it then reads of them

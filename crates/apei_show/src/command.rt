@@ -1,10 +1,10 @@
 // The command that clap reads: the flags, the options, and the files that stand by themselves.
 ghost use Rattle.std.specs.Prelude.{◌≡◌, IfOk, false};
 ghost use Rattle.clap.specs.Words.{app_of, rule_of};
-ghost use Rattle.apei_show.specs.Commands.{files_rule, flag_rule, the_command};
+ghost use Rattle.apei_show.specs.Commands.{files_rule, the_command};
 
 use clap::{Arg, ArgAction, Command};
-use clap_words::{bare, option};
+use clap_words::{bare, flag, option};
 use std::alloc::{AllocError, Global};
 
 // The names of the flags.
@@ -37,13 +37,6 @@ pub(crate) fn command<'a>(alloc: Global) -> Result<Command<'a>, AllocError>
         .arg(option(alloc, SMBIOS))?
         .arg(files(alloc))?;
     Ok(command)
-}
-
-fn flag<'a>(alloc: Global, name: &'a str) -> Arg<'a>
-    ensures rule { rule_of result ≡ flag_rule name.entry.now }
-    ensures local { result.global ≡ false }
-{
-    Arg::new(alloc, name).long(name).action(ArgAction::SetTrue)
 }
 
 fn files<'a>(alloc: Global) -> Arg<'a>

@@ -3,12 +3,12 @@ ghost use Rattle.std.specs.Prelude.{◌≡◌, Err, IfOk};
 ghost use Rattle.clap.specs.Words.{found_of, rows_of};
 ghost use Rattle.clap_words.specs.Commands.{NoneFits};
 ghost use Rattle.clap_words.specs.declared.error.WordsError.TheVariants.{BadWords};
-ghost use Rattle.apei_show.specs.Options.{AreBad, AreOptionsIn, AreOptionsOf};
+ghost use Rattle.apei_show.specs.Options.{AreBad, AreOptionsIn, AreOptionsOf, color_of};
 
-use crate::command::{BYTES, STRICT, command};
-use crate::values::{color, files, form, is_set, smbios};
+use crate::command::{BYTES, COLOR, SMBIOS, STRICT, command};
+use crate::values::{files, form};
 use clap::ArgMatches;
-use clap_words::{WordsError, matches_in};
+use clap_words::{Choice, WordsError, choice_of, is_set, matches_in, path};
 use std::alloc::Global;
 
 /// The form in which an item is shown.
@@ -29,6 +29,19 @@ pub enum Color {
     Auto,
     Always,
     Never,
+}
+
+impl Choice for Color {
+    ghost named = { color_of };
+
+    fn named(word: &str) -> Option<Color> {
+        match word {
+            "auto" => Some(Color::Auto),
+            "always" => Some(Color::Always),
+            "never" => Some(Color::Never),
+            _ => None,
+        }
+    }
 }
 
 /// The files that are shown, and how.
@@ -67,7 +80,8 @@ fn options_in(alloc: Global, matches: &ArgMatches<'_>) -> Result<Options, WordsE
         form: form(matches)?,
         bytes: is_set(matches, BYTES),
         strict: is_set(matches, STRICT),
-        color: color(matches)?,
-        smbios: smbios(alloc, matches)?,
+        // On a terminal, where nothing else is asked for.
+        color: choice_of(matches, COLOR, Some(Color::Auto))?,
+        smbios: path(alloc, matches, SMBIOS)?,
     })
 }

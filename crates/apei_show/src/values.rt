@@ -1,15 +1,15 @@
 // The values of the options.
 ghost use Rattle.std.specs.Prelude.{◌≡◌, Err, IfOk, MatchResult, codes, map, option_map, string_bytes};
-ghost use Rattle.std.specs.Option.{option_map_or};
-ghost use Rattle.clap.specs.Words.{all_of, first_of, found_of, rows_of};
+ghost use Rattle.clap.specs.Words.{all_of, found_of, rows_of};
 ghost use Rattle.clap_words.specs.Commands.{NoneFits};
 ghost use Rattle.clap_words.specs.declared.error.WordsError.TheVariants.{BadWords};
-ghost use Rattle.apei_show.specs.Options.{AreFiles, IsColor, IsForm, IsPath, color_of, is_set};
+ghost use Rattle.clap_words.specs.Values.{is_set};
+ghost use Rattle.apei_show.specs.Options.{AreFiles, IsForm};
 
-use crate::command::{BRIEF, COLOR, FILES, JSON, SMBIOS};
-use crate::{Color, Form};
+use crate::Form;
+use crate::command::{BRIEF, FILES, JSON};
 use clap::ArgMatches;
-use clap_words::{WordsError, text};
+use clap_words::{WordsError, is_set};
 use std::alloc::{AllocError, Global};
 
 /// The paths of the files, at least one.
@@ -57,52 +57,5 @@ pub(crate) fn form(matches: &ArgMatches<'_>) -> Result<Form, WordsError>
         (true, false) => Ok(Form::Json),
         (false, true) => Ok(Form::Brief),
         (false, false) => Ok(Form::Text),
-    }
-}
-
-/// When the output is coloured: on a terminal, where nothing else is asked for.
-pub(crate) fn color(matches: &ArgMatches<'_>) -> Result<Color, WordsError>
-    ensures { MatchResult result (IsColor (first_of (codes "color") (rows_of (found_of matches.now))))
-        (NoneFits (IsColor (first_of (codes "color") (rows_of (found_of matches.now))))) }
-{
-    match text(matches, COLOR) {
-        Some(word) => match color_named(word) {
-            Some(color) => Ok(color),
-            None => Err(WordsError::BadWords),
-        },
-        None => Ok(Color::Auto),
-    }
-}
-
-fn color_named(word: &str) -> Option<Color>
-    ensures { result ≡ color_of word.now }
-{
-    match word {
-        "auto" => Some(Color::Auto),
-        "always" => Some(Color::Always),
-        "never" => Some(Color::Never),
-        _ => None,
-    }
-}
-
-/// The path of the SMBIOS structures, where it is given.
-pub(crate) fn smbios(alloc: Global, matches: &ArgMatches<'_>) -> Result<Option<String>, WordsError>
-    ensures smbios { IfOk result (IsPath (first_of (codes "smbios") (rows_of (found_of matches.now)))) }
-    ensures bad_words { result ≡ Err BadWords
-        → NoneFits (IsPath (first_of (codes "smbios") (rows_of (found_of matches.now)))) BadWords }
-{
-    match text(matches, SMBIOS) {
-        Some(path) => Ok(Some(String::from_str(alloc, path)?)),
-        None => Ok(None),
-    }
-}
-
-/// Whether a flag was given: clap keeps the text "true" of one that was.
-pub(crate) fn is_set(matches: &ArgMatches<'_>, name: &str) -> bool
-    ensures { result ≡ is_set name.now (rows_of (found_of matches.now)) }
-{
-    match text(matches, name) {
-        Some(text) => text == "true",
-        None => false,
     }
 }

@@ -1,7 +1,7 @@
 use Rattle.std.proofs.Common.{◌≡◌, ◌∙◌, ap₂, codes}
 use Rattle.clap.specs.Words.{app_of, with_rule}
-use Rattle.clap_words.specs.Commands.{bare}
-use Rattle.apei_show.specs.Commands.{flag_rule, the_command}
+use Rattle.clap_words.specs.Commands.{bare, flag_rule}
+use Rattle.apei_show.specs.Commands.{the_command}
 use Rattle.apei_show.proofs.command.command.Goals as goal
 
 pub returns : goal.returns
