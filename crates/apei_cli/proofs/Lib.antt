@@ -1,6 +1,5 @@
 pub mod LineLaws
 pub mod Terms
-pub mod DecimalLemmas
 pub mod CommandLemmas
 pub mod TakesLemmas
 pub mod GivenLemmas

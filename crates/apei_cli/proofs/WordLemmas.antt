@@ -4,12 +4,13 @@ use Rattle.std.specs.Prelude.{String, string_bytes, option_map, map}
 use Rattle.std.specs.declared.alloc.Global.{Global}
 use Rattle.apei_check.specs.declared.text.show.Show.{Show}
 use Rattle.clap.specs.Words.{Text, Row, matches_of}
-use Rattle.apei_cli.proofs.DecimalLemmas.{IsNumber, same_number}
+use Rattle.clap_words.proofs.DecimalLemmas.{IsNumber, same_number}
+use Rattle.clap_words.specs.Values.{IsGiven, IsGivenOr}
 use Rattle.apei_cli.specs.CommandWords.{the_command}
 use Rattle.apei_cli.specs.declared.job.Job.{Job}
 use Rattle.apei_cli.specs.declared.job.Plan.{Plan}
 use Rattle.apei_cli.specs.declared.setting.Setting.TheVariants.{Image, Sector, PerSlot, Slots, Steps, Cut, Fail, FailRead, Torn, Count, Seed, Show as TheShow}
-use Rattle.apei_cli.specs.Plan.{IsCount, IsGiven, IsGivenOr, IsImage, IsPlanIn, IsPlanOf, IsShow, given}
+use Rattle.apei_cli.specs.Plan.{IsCount, IsImage, IsPlanIn, IsPlanOf, IsShow, given}
 
 one_number : (text : Text) (m n : ℕ) → IsNumber text m → IsNumber text n → m ≡ n
 one_number text m n a b = same_number m n a.1 b.1 (sym a.0 ∙ b.0)

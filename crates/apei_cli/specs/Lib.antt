@@ -1,5 +1,4 @@
 pub mod CommandWords
-pub mod Decimals
 pub mod Plan
 pub mod Statuses
 pub mod Runs

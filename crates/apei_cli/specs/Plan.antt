@@ -1,10 +1,11 @@
 -- The plan that a command line makes.
-use Rattle.std.specs.Prelude.{◌≡◌, ◌||◌, ℕ, ⊤, ◌^◌, ◌-◌, ◌<◌, ◌≤◌, true, false, not, List, length, Option, Some, None, is_some, option_and_then, String, string_bytes, Ok, codes, decimal, map, ◌∷◌, []}
+use Rattle.std.specs.Prelude.{◌≡◌, ◌||◌, ℕ, ◌^◌, ◌-◌, ◌<◌, true, false, not, List, length, Option, Some, None, is_some, String, string_bytes, Ok, codes, map, ◌∷◌, []}
 use Rattle.std.specs.List.{AllPass}
 use Rattle.std.specs.declared.alloc.Global.{Global}
 use Rattle.bitflags.specs.Text.{name_piece, read_text}
 use Rattle.apei_check.specs.declared.text.show.Show.{Show}
 use Rattle.clap.specs.Words.{Row, Text, first_of, matches_of, takes}
+use Rattle.clap_words.specs.Values.{IsChoice, IsGiven, IsGivenOr, IsNumberUpTo}
 use Rattle.apei_cli.specs.CommandWords.{belongs, is, job_of, name_of, settings, the_command}
 use Rattle.apei_cli.specs.declared.job.Job.{Job}
 use Rattle.apei_cli.specs.declared.job.Plan.{Plan}
@@ -15,22 +16,6 @@ use Rattle.apei_cli.specs.declared.setting.Setting.TheVariants.{Image, Sector, P
 -- the text that an option was given
 abbrev pub given : Setting → List Row → Option Text
 given setting rows = first_of (name_of setting) rows
-
--- a text is a number of at most `most` in decimal digits: it has no sign, and no zero before other digits
-abbrev pub IsNumberUpTo : ℕ → Text → ℕ → Type 0
-IsNumberUpTo most text n = ((text ≡ decimal n) × (n < 2 ^ 64)) × (n ≤ most)
-
--- the number that an option was given, or none where it was not given
-abbrev pub IsGiven : ℕ → Option Text → Option ℕ → Type 0
-IsGiven most None None = ⊤
-IsGiven most None (Some n) = ⊥
-IsGiven most (Some text) None = ⊥
-IsGiven most (Some text) (Some n) = IsNumberUpTo most text n
-
--- the number that an option was given, or its default
-abbrev pub IsGivenOr : ℕ → ℕ → Option Text → ℕ → Type 0
-IsGivenOr default most None n = n ≡ default
-IsGivenOr default most (Some text) n = IsNumberUpTo most text n
 
 -- the path of the image, which is not empty, and which the job `play` has to be given
 abbrev pub IsImage : Job → Option Text → Option (String Global) → Type 0
@@ -51,7 +36,7 @@ IsShow (Some text) show = read_text (name_piece ((codes "HEAD", 1) ∷ (codes "P
 
 -- the plan has the job that the positional names, and the value of each option or its default; an option that was given belongs to the job
 pub record IsPlanIn (rows : List Row) (plan : Plan) : Type 0 where
-  pub job : option_and_then job_of (first_of (codes "job") rows) ≡ Some plan.job
+  pub job : IsChoice job_of None (first_of (codes "job") rows) plan.job
   pub own : AllPass (λ (setting : Setting). not (is_some (given setting rows)) || belongs setting plan.job) settings
   pub image : IsImage plan.job (given Image rows) plan.image
   pub sector : IsGivenOr 4096 (2 ^ 64 - 1) (given Sector rows) plan.sector

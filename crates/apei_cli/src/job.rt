@@ -1,5 +1,8 @@
 // What a command line asks for.
+ghost use Rattle.apei_cli.specs.CommandWords.{job_of};
+
 use apei_check::Show;
+use clap_words::Choice;
 
 /// What the program does.
 #[derive(Clone, Copy, Debug, PartialEq, Eq)]
@@ -14,6 +17,21 @@ pub enum Job {
     Gen,
     /// It plays a script on the error sources of a table.
     Hub,
+}
+
+impl Choice for Job {
+    ghost named = { job_of };
+
+    fn named(word: &str) -> Option<Job> {
+        match word {
+            "play" => Some(Job::Play),
+            "sim" => Some(Job::Sim),
+            "check" => Some(Job::Check),
+            "gen" => Some(Job::Gen),
+            "hub" => Some(Job::Hub),
+            _ => None,
+        }
+    }
 }
 
 /// What a command line asks for. An option that it doesn't give has its default.

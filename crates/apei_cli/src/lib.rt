@@ -7,7 +7,6 @@ mod generate;
 mod generated;
 mod job;
 mod laws;
-mod number;
 mod program;
 mod script;
 mod setting;

@@ -1,15 +1,14 @@
-// The job and the values of the options.
-ghost use Rattle.std.specs.Prelude.{◌≡◌, ◌↔◌, ◌≤◌, ◌||◌, Err, IfOk, IsTrue, MatchResult, MatchOption, None, Some, codes, is_some, not, option_and_then, option_map};
+// The values of the options.
+ghost use Rattle.std.specs.Prelude.{◌≡◌, ◌↔◌, ◌||◌, Err, IfOk, IsTrue, MatchResult, is_some, not, option_map};
 ghost use Rattle.std.specs.List.{AllPass};
 ghost use Rattle.clap.specs.Words.{first_of, found_of, rows_of};
-ghost use Rattle.apei_cli.specs.CommandWords.{belongs, job_of, settings};
+ghost use Rattle.apei_cli.specs.CommandWords.{belongs, settings};
 ghost use Rattle.clap_words.specs.Commands.{NoneFits};
 ghost use Rattle.clap_words.specs.declared.error.WordsError.TheVariants.{BadWords};
-ghost use Rattle.apei_cli.specs.Plan.{IsCount, IsGiven, IsGivenOr, IsImage, IsShow, given};
+ghost use Rattle.apei_cli.specs.Plan.{IsCount, IsImage, IsShow, given};
+ghost use Rattle.clap_words.specs.Values.{IsGiven, IsGivenOr};
 ghost use Rattle.apei_cli.specs.declared.setting.Setting.TheVariants.{Count, Image, Show as TheShow};
 
-use crate::command::JOB;
-use crate::number::number_up_to;
 use crate::setting::{SETTINGS, Setting};
 use crate::{Job, Show, WordsError};
 use bitflags::parser::from_str_strict;
@@ -18,35 +17,6 @@ use std::alloc::Global;
 
 /// The most commands that are made.
 const MOST_COMMANDS: u64 = 100_000;
-
-/// The job that is named.
-pub(crate) fn job(matches: &ArgMatches<'_>) -> Result<Job, WordsError>
-    ensures { MatchResult result (λ job. option_and_then job_of (first_of (codes "job") (rows_of (found_of matches.now))) ≡ Some job)
-        (λ error. (error ≡ BadWords)
-        × (option_and_then job_of (first_of (codes "job") (rows_of (found_of matches.now))) ≡ None)) }
-{
-    let Some(name) = job_text(matches) else {
-        return Err(WordsError::BadWords);
-    };
-    match job_named(name) {
-        Some(job) => Ok(job),
-        None => Err(WordsError::BadWords),
-    }
-}
-
-// The job of a name.
-fn job_named(name: &str) -> Option<Job>
-    ensures { result ≡ job_of name.now }
-{
-    match name {
-        "play" => Some(Job::Play),
-        "sim" => Some(Job::Sim),
-        "check" => Some(Job::Check),
-        "gen" => Some(Job::Gen),
-        "hub" => Some(Job::Hub),
-        _ => None,
-    }
-}
 
 /// Whether each option that was given belongs to the job.
 pub(crate) fn are_own(matches: &ArgMatches<'_>, job: Job) -> bool
@@ -131,7 +101,7 @@ pub(crate) fn number_or(
     ensures { MatchResult result (IsGivenOr default most (given setting (rows_of (found_of matches.now))))
         (NoneFits (IsGivenOr default most (given setting (rows_of (found_of matches.now))))) }
 {
-    Ok(number_of(matches, setting, most)?.unwrap_or(default))
+    clap_words::number_or(matches, setting.name(), default, most)
 }
 
 /// The number of at most `most` that an option was given.
@@ -143,13 +113,7 @@ pub(crate) fn number_of(
     ensures { MatchResult result (IsGiven most (given setting (rows_of (found_of matches.now))))
         (NoneFits (IsGiven most (given setting (rows_of (found_of matches.now))))) }
 {
-    match text(matches, setting) {
-        Some(digits) => match number_up_to(digits.as_bytes(), most) {
-            Some(number) => Ok(Some(number)),
-            None => Err(WordsError::BadWords),
-        },
-        None => Ok(None),
-    }
+    clap_words::number_of(matches, setting.name(), most)
 }
 
 // The text that an option was given.
@@ -157,11 +121,4 @@ fn text<'a>(matches: &ArgMatches<'a>, setting: Setting) -> Option<&'a str>
     ensures { option_map (λ text. text.now) result ≡ given setting (rows_of (found_of matches.now)) }
 {
     clap_words::text(matches, setting.name())
-}
-
-// The name of the job.
-fn job_text<'a>(matches: &ArgMatches<'a>) -> Option<&'a str>
-    ensures { option_map (λ text. text.now) result ≡ first_of (codes "job") (rows_of (found_of matches.now)) }
-{
-    clap_words::text(matches, JOB)
 }

@@ -6,12 +6,12 @@ ghost use Rattle.clap_words.specs.Commands.{NoneFits};
 ghost use Rattle.clap_words.specs.declared.error.WordsError.TheVariants.{BadWords};
 ghost use Rattle.apei_cli.specs.Plan.{IsPlanIn, IsPlanOf};
 
-use crate::command::command;
+use crate::command::{JOB, command};
 use crate::setting::Setting;
-use crate::values::{are_own, count, image, job, number_of, number_or, show};
+use crate::values::{are_own, count, image, number_of, number_or, show};
 use crate::{Plan, WordsError};
 use clap::ArgMatches;
-use clap_words::matches_in;
+use clap_words::{choice_of, matches_in};
 use std::alloc::Global;
 
 /// The most steps that a line may be given.
@@ -36,7 +36,7 @@ fn plan_in(alloc: Global, matches: &ArgMatches<'_>) -> Result<Plan, WordsError>
     ensures plan { IfOk result (IsPlanIn (rows_of (found_of matches.now))) }
     ensures bad_words { result ≡ Err BadWords → NoneFits (IsPlanIn (rows_of (found_of matches.now))) BadWords }
 {
-    let job = job(matches)?;
+    let job = choice_of(matches, JOB, None)?;
     if !are_own(matches, job) {
         return Err(WordsError::BadWords);
     }

@@ -1,10 +1,12 @@
-use Rattle.std.proofs.lemmas.Result.{err_from_is_err_and}
-use Rattle.clap.specs.Words.{found_of, rows_of}
-use Rattle.apei_cli.specs.Plan.{given}
-use Rattle.apei_cli.proofs.GivenLemmas.{none_or}
+use Rattle.std.proofs.Common.{subst}
+use Rattle.std.specs.Prelude.{MatchResult}
+use Rattle.clap.specs.Words.{Text, first_of, found_of, rows_of}
+use Rattle.clap_words.specs.Commands.{NoneFits}
+use Rattle.clap_words.specs.Values.{IsGivenOr}
 use Rattle.apei_cli.proofs.values.number_or.Goals as goal
 
-pub returns-in_err-number_of : goal.returns-in_err-number_of
-returns-in_err-number_of c =
-    let p = err_from_is_err_and c.from_residual.result c.from_residual.ensures.1 in
-    rw (p.1, p.2) (c.in_err-number_of.ensures.0, none_or c.args.default c.args.most (given c.args.setting (rows_of (found_of c.args.matches.now))) c.in_err-number_of.ensures.1)
+pub returns : goal.returns
+returns c =
+    subst (λ (name : Text).
+    MatchResult c.number_or.result (IsGivenOr c.args.default c.args.most (first_of name (rows_of (found_of c.args.matches.now))))
+    (NoneFits (IsGivenOr c.args.default c.args.most (first_of name (rows_of (found_of c.args.matches.now)))))) c.name.ensures c.number_or.ensures
