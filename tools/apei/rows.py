@@ -77,7 +77,7 @@ CODE_STRUCTURE = re.compile(r"^ +(\w+) \{\n((?: +\w+(?:: [^\n]*)?,\n)+) +\}", re
 CODE_READ = re.compile(r"(\w+): (get_u(?:8|16|32|64)|byte_at|guid_at|array_at|gas_from)\(\w+, (\d+)\)")
 WIDTHS = {"get_u8": 1, "byte_at": 1, "get_u16": 2, "get_u32": 4, "get_u64": 8, "guid_at": 16, "gas_from": 12}
 DEFINED_STRUCTURE = re.compile(r"^(?:abbrev|unfoldable) pub (\w+) : [^\n]*\n\1 [^\n]*= record \{(.*?)\}", re.S | re.M)
-DEFINED_READ = re.compile(r"(\w+) = (?:number_at \w+ (\d+) (\d+)|\(?(?:gas_at )?\(?part \w+ (\d+) (\d+)\)?)")
+DEFINED_READ = re.compile(r"(\w+) =\s+(?:number_at \w+ (\d+) (\d+)|\(?(?:gas_at )?\(?part \w+ (\d+) (\d+)\)?)")
 # Numbers by name, in a `match`, in an `elim`, and in an `if`.
 ARM = re.compile(r"(?:(\d+|0x[0-9a-fA-F]+) => (?:Some\()?(\w+)::(\w+)|\b(\w+)::(\w+) => (\d+|0x[0-9a-fA-F]+)),")
 WORD_ARM = re.compile(r"fn (\w+_name)\(.*?\n\}", re.S)

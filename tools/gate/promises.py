@@ -38,7 +38,7 @@ REGIONS = [
     ("docs/PROOFS.md", "## What is proved", "## Ten theorems"),
     ("docs/EMBED.md", "## What is promised", "### A format that is cut"),
     ("docs/EMBED.md", "### What is promised of error sources", "### The boot error region"),
-    ("docs/KERNEL.md", "## What is promised", "A demand takes some 345 ns"),
+    ("docs/KERNEL.md", "## What is promised", "A demand takes some 85 ns"),
     ("docs/PROOFS.md", "## Ten theorems", "The last column names"),
 ]
 BY_CHECK = "the check"
